@@ -1,0 +1,4 @@
+pub mod Tables
+pub mod Lists
+pub mod Sizes
+pub mod Rows

@@ -1,0 +1,4 @@
+pub mod Quota
+pub mod Greedy
+pub mod Laws
+pub mod Cut

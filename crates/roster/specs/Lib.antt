@@ -1,0 +1,4 @@
+pub mod Roster
+pub mod Changes
+pub mod Laws
+pub mod Places
