@@ -4,7 +4,7 @@ use mathlib.Core.Path.{_≡_, refl, sym, ap, _∙_}
 use mathlib.Core.Bool.{Bool, true, false, true≢false}
 use mathlib.Core.Logic.{_⊎_, inl, inr, _≢_, ⊎-elim, by-cases}
 use Prim.Native.Nat.{ℕ, zero, suc, _+_, _*_, _≤_, _<_, min, zero-le}
-use native.Mathlib.Nat.{not-suc-le-zero, zero-mul, zero-min, add-mul, add-zero, min-eq-left, le-of-eq, le-trans, le-refl, zero-add, lt-of-le-of-lt, mul-le-mul-right, mul-lt-mul-of-pos-left}
+use native.Mathlib.Nat.{not-suc-le-zero, zero-mul, zero-min, add-mul, add-zero, mul-zero, min-eq-left, le-of-eq, le-trans, le-refl, zero-add, lt-of-le-of-lt, mul-le-mul-right, mul-lt-mul-of-pos-left}
 use native.Mathlib.Omega.{arith, by-contra}
 use native.Mathlib.Decide.{decLt, le-ind}
 use lib.Dec.{ltb}
@@ -29,6 +29,12 @@ sum-le (suc n) f g h =
     let before : sum n f ≤ sum n g = sum-le n f g (λ i l. h i (omega arith)) in
     let here : f n ≤ g n = h n (omega arith) in
     omega arith
+
+-- the first place apart
+pub sum-front : (n : ℕ) (f : ℕ → ℕ) → sum (suc n) f ≡ f 0 + sum n (λ i. f (suc i))
+unfolding sum
+sum-front zero f = omega arith
+sum-front (suc n) f = let r : sum n f + f n ≡ f 0 + sum n (λ i. f (suc i)) = sum-front n f in omega arith
 
 -- c more at one place, and nowhere less, is c more in all
 pub sum-gap : (n : ℕ) (f g : ℕ → ℕ) (p c : ℕ) → ((i : ℕ) → i < n → f i ≤ g i) → p < n → f p + c ≤ g p → sum n f + c ≤ sum n g
@@ -139,6 +145,17 @@ count-fits (suc n) p = let r : count n p ≤ n = count-fits n p in let here = on
     one-fits : (b : Bool) → one-if b ≤ 1
     one-fits true = le-refl 1
     one-fits false = zero-le
+
+pub count-none : (n : ℕ) (p : ℕ → Bool) → ((i : ℕ) → i < n → p i ≡ false) → count n p ≡ 0
+count-none n p h = sum-ext n (λ i. one-if (p i)) (λ i. 0) (λ i l. ap one-if (h i l)) ∙ sum-const n 0 ∙ mul-zero n
+
+-- a place that passes is one more than those below it
+pub count-strict : (n : ℕ) (p : ℕ → Bool) (i : ℕ) → i < n → p i ≡ true → count i p < count n p
+unfolding sum
+count-strict n p i l t =
+    let more : count (suc i) p ≤ count n p = sum-more (suc i) n (λ k. one-if (p k)) l in
+    let one : one-if (p i) ≡ 1 = ap one-if t in
+    omega arith
 
 -- where a test passes below every place at which it passes, it passes below its count
 pub count-prefix : (n : ℕ) (p : ℕ → Bool) → ((i j : ℕ) → i < j → j < n → p j ≡ true → p i ≡ true) → (i : ℕ) → i < n → p i ≡ ltb i (count n p)

@@ -1,0 +1,3 @@
+pub mod Mover
+pub mod Laws
+pub mod Pass
