@@ -4,7 +4,7 @@ use mathlib.Core.Path.{_≡_, refl, sym, ap, _∙_}
 use mathlib.Core.Bool.{Bool, true, false, true≢false}
 use mathlib.Core.Logic.{_⊎_, inl, inr, _≢_, ⊎-elim, by-cases}
 use Prim.Native.Nat.{ℕ, zero, suc, _+_, _*_, _≤_, _<_, min, zero-le}
-use native.Mathlib.Nat.{not-suc-le-zero, zero-mul, zero-min, add-mul, add-zero, mul-zero, min-eq-left, le-of-eq, le-trans, le-refl, zero-add, lt-of-le-of-lt, mul-le-mul-right, mul-lt-mul-of-pos-left}
+use native.Mathlib.Nat.{not-suc-le-zero, zero-mul, zero-min, add-mul, add-zero, mul-zero, mul-one, min-eq-left, le-of-eq, le-trans, le-refl, zero-add, lt-of-le-of-lt, mul-le-mul-right, mul-lt-mul-of-pos-left}
 use native.Mathlib.Omega.{arith, by-contra}
 use native.Mathlib.Decide.{decLt, le-ind}
 use lib.Dec.{ltb}
@@ -148,6 +148,9 @@ count-fits (suc n) p = let r : count n p ≤ n = count-fits n p in let here = on
 
 pub count-none : (n : ℕ) (p : ℕ → Bool) → ((i : ℕ) → i < n → p i ≡ false) → count n p ≡ 0
 count-none n p h = sum-ext n (λ i. one-if (p i)) (λ i. 0) (λ i l. ap one-if (h i l)) ∙ sum-const n 0 ∙ mul-zero n
+
+pub count-all : (n : ℕ) (p : ℕ → Bool) → ((i : ℕ) → i < n → p i ≡ true) → count n p ≡ n
+count-all n p h = sum-ext n (λ i. one-if (p i)) (λ i. 1) (λ i l. ap one-if (h i l)) ∙ sum-const n 1 ∙ mul-one n
 
 -- a place that passes is one more than those below it
 pub count-strict : (n : ℕ) (p : ℕ → Bool) (i : ℕ) → i < n → p i ≡ true → count i p < count n p

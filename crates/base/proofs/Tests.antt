@@ -1,14 +1,14 @@
 -- Tests read back as facts: both of two, each of 0 .. n-1, and two tests that agree.
 -- Assumes nothing.
-use mathlib.Core.Path.{_≡_, refl, sym, _∙_}
+use mathlib.Core.Path.{_≡_, refl, sym, ap, _∙_}
 use mathlib.Core.Bool.{Bool, true, false, _&&_, not, or-true, true≢false}
 use mathlib.Core.Logic.{_⊎_, inl, inr, ⊎-elim}
 use Prim.Native.Nat.{ℕ, zero, suc, _+_, _<_}
-use native.Mathlib.Nat.{not-suc-le-zero, eq-or-lt-of-le, le-of-suc-le-suc}
+use native.Mathlib.Nat.{not-suc-le-zero, eq-or-lt-of-le, le-of-suc-le-suc, zero-lt-suc}
 use native.Mathlib.Numerals.{add-one}
 use native.Mathlib.Omega.{arith}
 use borrow.Author.Tests.{not-true, not-false}
-use Rattle.base.specs.Tables.{all, any}
+use Rattle.base.specs.Tables.{all, any, first}
 
 -- A step of an induction over the places below suc n: those below n, and n itself.
 pub below-suc : {i n : ℕ} → i < suc n → (i < n) ⊎ (i ≡ n)
@@ -86,3 +86,17 @@ pub any-none : (n : ℕ) (p : ℕ → Bool) → ((i : ℕ) → i < n → p i ≡
 unfolding any
 any-none zero p h = refl
 any-none (suc n) p h = rw (any-none n p (λ i l. h i (omega arith)), h n (omega arith))
+
+-- first ----------------------------------------------------------------------
+
+pub first-is : (n : ℕ) (p : ℕ → Bool) (i : ℕ) → i < n → p i ≡ true → ((k : ℕ) → k < i → p k ≡ false) → first n p ≡ i
+unfolding first
+first-is zero p i l t below = absurd (not-suc-le-zero l)
+first-is (suc n) p zero l t below = rw t
+first-is (suc n) p (suc i) l t below =
+    rw (below 0 (zero-lt-suc i)) (ap suc (first-is n (λ k. p (suc k)) i (le-of-suc-le-suc l) t (λ k h. below (suc k) (omega arith))))
+
+pub first-none : (n : ℕ) (p : ℕ → Bool) → ((k : ℕ) → k < n → p k ≡ false) → first n p ≡ n
+unfolding first
+first-none zero p below = refl
+first-none (suc n) p below = rw (below 0 (zero-lt-suc n)) (ap suc (first-none n (λ k. p (suc k)) (λ k h. below (suc k) (omega arith))))

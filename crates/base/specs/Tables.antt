@@ -1,6 +1,6 @@
 -- Sums, counts and tests over the numbers 0 .. n-1, and the list of a function's values there.
 -- Assumes nothing.
-use mathlib.Core.Bool.{Bool, true, false, _&&_, _||_}
+use mathlib.Core.Bool.{Bool, true, false, _&&_, _||_, cond}
 use mathlib.Core.List.{List, [], _∷_}
 use Prim.Native.Nat.{ℕ, zero, suc, _+_}
 use lib.ListN.{length, getD}
@@ -28,6 +28,11 @@ all (suc n) p = all n p && p n
 unfoldable pub any : ℕ → (ℕ → Bool) → Bool
 any zero p = false
 any (suc n) p = any n p || p n
+
+-- the first of 0 .. n-1 that passes the test p, n where none does
+unfoldable pub first : ℕ → (ℕ → Bool) → ℕ
+first zero p = 0
+first (suc n) p = cond (p 0) 0 (suc (first n (λ i. p (suc i))))
 
 -- the list of f 0, f 1, .., f (n-1)
 unfoldable pub table : ℕ → (ℕ → ℕ) → List ℕ

@@ -187,3 +187,21 @@ pub fewest-changes : FewestChanges
 fewest-changes hosts quotas slots other w long x =
     let f = frees-least (quotaOf hosts quotas) slots other long (λ k. le-of-eq (exact-held hosts quotas other (w .rise) x k)) in
     omega (arith, changes-freed hosts quotas slots w, freed-is-frees hosts quotas slots)
+
+-- a table is exact where no slot is freed --------------------------------------------------------
+
+pub exact-none-freed : (hosts quotas slots : List ℕ) → Fitting hosts quotas slots → Exact hosts quotas slots → freedBelow hosts quotas slots (length slots) ≡ 0
+exact-none-freed hosts quotas slots w x =
+    let few = fewest-changes hosts quotas slots slots w refl x in
+    let none : changes slots slots ≡ 0 = count-none (length slots) _ (λ i l. ap not (eq-eqb (at slots i) (at slots i) refl)) in
+    omega (arith, changes-freed hosts quotas slots w)
+
+pub none-freed-same : (hosts quotas slots : List ℕ) → freedBelow hosts quotas slots (length slots) ≡ 0 → slots ≡ moved hosts quotas slots
+none-freed-same hosts quotas slots z =
+    is-table slots (length slots) (newOwner hosts quotas slots) refl
+    (λ i l. by-test (freed hosts quotas slots i)
+    (λ t. absurd (let c = count-strict (length slots) (freed hosts quotas slots) i l t in omega arith))
+    (λ f. sym (ap (λ b. cond b (at (receivers hosts quotas slots) (freedBelow hosts quotas slots i)) (at slots i)) f)))
+
+pub none-freed-exact : (hosts quotas slots : List ℕ) → Fitting hosts quotas slots → freedBelow hosts quotas slots (length slots) ≡ 0 → Exact hosts quotas slots
+none-freed-exact hosts quotas slots w z = subst (Exact hosts quotas) (sym (none-freed-same hosts quotas slots z)) (moved-is-exact hosts quotas slots w .1)

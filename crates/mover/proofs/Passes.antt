@@ -27,10 +27,10 @@ freedBy room slots i = leb (room (at slots i)) (heldBelow slots i (at slots i))
 
 -- one slot further -----------------------------------------------------------------
 
-lowered-same : (room : ℕ → ℕ) (h k : ℕ) → k ≡ h → lowered room h k ≡ room k - 1
+pub lowered-same : (room : ℕ → ℕ) (h k : ℕ) → k ≡ h → lowered room h k ≡ room k - 1
 lowered-same room h k e = rw (eq-eqb k h e)
 
-lowered-other : (room : ℕ → ℕ) (h k : ℕ) → (k ≡ h → ⊥) → lowered room h k ≡ room k
+pub lowered-other : (room : ℕ → ℕ) (h k : ℕ) → (k ≡ h → ⊥) → lowered room h k ≡ room k
 lowered-other room h k ne = rw (ne-eqb k h ne)
 
 -- what an owner holds with one slot more in front
@@ -107,7 +107,7 @@ pub held-cons : (h : ℕ) (l : List ℕ) (k : ℕ) → held (h ∷ l) k ≡ one-
 held-cons h l k = held-front h l (length l) k
 
 -- where there is no room, passing a slot takes none
-lowered-zero : (room : ℕ → ℕ) (h : ℕ) → room h ≡ 0 → (k : ℕ) → lowered room h k ≡ room k
+pub lowered-zero : (room : ℕ → ℕ) (h : ℕ) → room h ≡ 0 → (k : ℕ) → lowered room h k ≡ room k
 lowered-zero room h e k =
     by-cases (ℕ-discrete k h)
     (λ s. lowered-same room h k s ∙ (let z : room k ≡ 0 = ap room s ∙ e in omega arith))

@@ -6,6 +6,7 @@ use mathlib.Core.List.{List, _++_}
 use Prim.Native.Nat.{ℕ, _+_, _≤_}
 use native.Mathlib.Nat.{zero-add}
 use lib.ListN.{length, take, drop, replicate}
+use Rattle.base.specs.Lists.{padded}
 use Rattle.base.specs.Tables.{table, total}
 use Rattle.base.proofs.Entries.{length-table, take-replicate, drop-replicate, total-zeros}
 use Rattle.quota.specs.Quota.{quota, quotas, withinSizes, quotasGiven}
@@ -16,6 +17,10 @@ use Rattle.quota.proofs.Step.{zero-cut}
 pub given-outside : (rates : List ℕ) (S : ℕ) → withinSizes rates S ≡ false → quotasGiven rates S ≡ replicate 256 0
 unfolding quotasGiven
 given-outside rates S f = rw f
+
+pub given-inside : (rates : List ℕ) (S : ℕ) → withinSizes rates S ≡ true → quotasGiven rates S ≡ padded 256 (quotas rates S)
+unfolding quotasGiven
+given-inside rates S t = rw t
 
 pub given-none : (rates : List ℕ) (S : ℕ) → withinSizes rates S ≡ true → length rates ≡ 0 → quotasGiven rates S ≡ replicate 256 0
 unfolding quotasGiven table
