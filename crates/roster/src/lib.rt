@@ -141,8 +141,8 @@ fn may_add(r: Roster, host: u16, rate: u32) -> bool
     r.count < 256
 }
 
-// Whether a host may be dropped.
-fn may_drop(r: Roster, host: u16) -> bool
+// Whether a host may be dropped: whether it is on the roster.
+pub fn may_drop(r: Roster, host: u16) -> bool
     ensures { λ s. ⌜ s ≡ changes.mayDrop r host ⌝ }
 {
     if !valid(r) {

@@ -1,15 +1,16 @@
 -- What the calls on a table answer, case by case.
 -- Assumes nothing.
 use mathlib.Core.Path.{_≡_, refl, sym, ap, ap₂, _∙_, fun-ext}
-use mathlib.Core.Bool.{Bool, true, false, _&&_, not, cond, and-false}
-use mathlib.Core.List.{List, _∷_}
+use mathlib.Core.Bool.{true, false, _&&_, not, cond, and-false}
+use mathlib.Core.Logic.{⊎-elim}
+use mathlib.Core.List.{List}
 use Prim.Native.Nat.{ℕ, _≤_, _<_}
-use native.Mathlib.Nat.{pos-of-ne-zero}
+use native.Mathlib.Nat.{pos-of-ne-zero, eq-zero-or-pos}
 use native.Mathlib.Omega.{arith}
 use lib.Dec.{leb, eqb}
 use lib.ListN.{length}
 use borrow.Author.Tests.{eq-eqb, ne-eqb, eqb-true, leb-true}
-use Rattle.base.specs.Rows.{Row, lowest, risesFrom}
+use Rattle.base.specs.Rows.{lowest, risesFrom}
 use Rattle.base.specs.Sizes.{slotsFit}
 use Rattle.base.specs.Tables.{first, at}
 use Rattle.base.proofs.Answers.{lowest-stop, lowest-go}
@@ -27,11 +28,6 @@ use Rattle.table.proofs.Owners.{known-owner, belongs-exact}
 use Rattle.table.proofs.Moves.{as-many, belongs-none-freed, none-freed-belongs, fewest-moves}
 
 -- the rows of sizes -------------------------------------------------------------------------
-
--- one more row that holds, or does not
-row-decides : (n : ℕ) (b : Bool) (rows : List Row) → lowest (record { number = n; holds = b } ∷ rows) ≡ cond b n (lowest rows)
-unfolding lowest
-row-decides n b rows = refl
 
 pub sizes-rise : (r : Roster) (S n : ℕ) → risesFrom 0 (sizeRows r S n) ≡ true
 unfolding risesFrom
@@ -119,6 +115,16 @@ module _ (r : Roster) (S : ℕ) (slots : List ℕ) (z : Sized r S slots) where
   -- none freed: 0
   pub check-belongs : freedSlots r S slots ≡ 0 → checked r S slots ≡ says 0 0
   check-belongs e = check-passes (none-freed-belongs r S slots z e)
+
+-- what a check that answers 0 tells
+pub check-zero : (r : Roster) (S : ℕ) (slots : List ℕ) → checkAnswer r S slots ≡ 0 → Sized r S slots × (belongs r S slots ≡ true)
+unfolding lowest
+check-zero r S slots e =
+    let z : Sized r S slots = ⊎-elim
+    (λ v. sizes-sized r S slots v)
+    (λ v. absurd (let w = ap (λ c. c .answer) (check-sizes r S slots (lowest (sizeRows r S (length slots))) refl (λ u. omega arith)) in omega arith))
+    (eq-zero-or-pos (lowest (sizeRows r S (length slots)))) in
+    (z, by-test (belongs r S slots) (λ t. t) (λ f. absurd (let w : 3 ≡ 0 = rw f at (sym (table-decides r S slots z) ∙ e) in omega arith)))
 
 -- the move ----------------------------------------------------------------------------------
 

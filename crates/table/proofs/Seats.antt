@@ -5,7 +5,7 @@ use mathlib.Core.Bool.{true, false}
 use mathlib.Core.Logic.{by-cases}
 use mathlib.Core.List.{List}
 use Prim.Native.Nat.{ℕ, _+_, _≤_, _<_, zero-le}
-use native.Mathlib.Nat.{le-refl, le-of-lt, not-le-of-lt, le-antisymm, le-trans}
+use native.Mathlib.Nat.{le-refl, not-le-of-lt, le-antisymm, le-trans}
 use native.Mathlib.Omega.{by-contra}
 use native.Mathlib.Decide.{decLt}
 use lib.ListN.{length}
@@ -35,14 +35,6 @@ module _ (hosts room : List ℕ) (rises : Rises hosts) (owner p : ℕ) (e : p �
 
   pub seat-empty : p < length hosts → at hosts p ≡ owner → at room p ≡ 0 → Seat hosts room owner (length hosts)
   seat-empty h s z = nowhere (ap (quotaOf hosts room) (sym s) ∙ quota-host hosts room rises p h ∙ z)
-
-pub seat-there : (hosts room : List ℕ) (owner p : ℕ) → p < length hosts → at hosts p ≡ owner → 0 < at room p → Seat hosts room owner p
-seat-there hosts room owner p h s some = record {
-  within = le-of-lt h;
-  there = λ _. s;
-  has-room = λ _. some;
-  nowhere = λ l. absurd (not-le-of-lt h l);
-}
 
 -- the search inside the slots -------------------------------------------------------------
 

@@ -1,0 +1,3 @@
+pub mod Events
+pub mod Forecasts
+pub mod Demand3
