@@ -1,2 +1,4 @@
 pub mod Checks
 pub mod Outcomes
+pub mod OneHost
+pub mod Histories

@@ -154,6 +154,11 @@ module _ (r : Roster) (host : ℕ) (t : mayDrop r host ≡ true) where
   unfolding mayDrop
   drop-place = let f = facts r drop-valid in rw (length-hosts r f) at (on-place (hostsOf r) (hosts-rise r f) host (and-right (valid r) _ t) .0)
 
+  -- and nobody else does
+  pub drop-there : at (hostsOf r) (placeIn r host) ≡ host
+  unfolding mayDrop
+  drop-there = let f = facts r drop-valid in on-place (hostsOf r) (hosts-rise r f) host (and-right (valid r) _ t) .1
+
   pub drop-sound : Sound (removeAt (placeIn r host) (hostsOf r)) (removeAt (placeIn r host) (ratesOf r))
   drop-sound =
       let f = facts r drop-valid in
@@ -180,6 +185,14 @@ module _ (r : Roster) (host rate : ℕ) (t : mayRerate r host rate ≡ true) whe
   unfolding mayRerate
   rate-place = let f = facts r rate-valid in rw (length-hosts r f) at (on-place (hostsOf r) (hosts-rise r f) host (and-right (valid r && rateFits rate) _ t) .0)
 
+  pub rate-there : at (hostsOf r) (placeIn r host) ≡ host
+  unfolding mayRerate
+  rate-there = let f = facts r rate-valid in on-place (hostsOf r) (hosts-rise r f) host (and-right (valid r && rateFits rate) _ t) .1
+
+  pub rate-rate-fits : rateFits rate ≡ true
+  unfolding mayRerate
+  rate-rate-fits = and-right (valid r) _ (and-left (valid r && rateFits rate) _ t)
+
   pub rate-sound : Sound (hostsOf r) (set (ratesOf r) (placeIn r host) rate)
   unfolding mayRerate
   rate-sound =
@@ -188,7 +201,7 @@ module _ (r : Roster) (host rate : ℕ) (t : mayRerate r host rate ≡ true) whe
         few = s .few;
         as-many = length-set (ratesOf r) _ rate ∙ s .as-many;
         hosts-fit = s .hosts-fit;
-        rates-fit = every-set (λ v. rateFits v ≡ true) (ratesOf r) (placeIn r host) rate (and-right (valid r) _ (and-left (valid r && rateFits rate) _ t)) (s .rates-fit);
+        rates-fit = every-set (λ v. rateFits v ≡ true) (ratesOf r) (placeIn r host) rate rate-rate-fits (s .rates-fit);
         rise = s .rise;
       }
 

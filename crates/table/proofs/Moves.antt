@@ -98,7 +98,7 @@ module _ (hosts quotas : List ℕ) (S : ℕ) (w : Fitting hosts quotas (blank S)
       ∙ ap (λ t. at (runs hosts t) i) (sym all-lacking))
 
 -- 0 is no host's number
-zero-off : (r : Roster) → valid r ≡ true → isOn (hostsOf r) 0 ≡ false
+pub zero-off : (r : Roster) → valid r ≡ true → isOn (hostsOf r) 0 ≡ false
 zero-off r v =
     let f = facts r v in
     by-test (isOn (hostsOf r) 0)

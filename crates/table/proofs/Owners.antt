@@ -51,7 +51,7 @@ alone-rise : Rises (0 ∷ [])
 alone-rise i zero l k = absurd (not-suc-le-zero l)
 alone-rise i (suc j) l k = absurd (omega arith)
 
-alone-on : (owner : ℕ) → isOn (0 ∷ []) owner ≡ eqb owner 0
+pub alone-on : (owner : ℕ) → isOn (0 ∷ []) owner ≡ eqb owner 0
 unfolding isOn any
 alone-on owner =
     same-test (eqb 0 owner) (eqb owner 0)

@@ -135,7 +135,7 @@ moves a n = record { answer = a; count = n }
 pub moves-are : (m : Moved) (a n : ℕ) → m .answer ≡ a → m .count ≡ n → m ≡ moves a n
 moves-are m a n e f = λ i. record { answer = e i; count = f i }
 
-no-change : (slots : List ℕ) → changes slots slots ≡ 0
+pub no-change : (slots : List ℕ) → changes slots slots ≡ 0
 no-change slots = count-none (length slots) _ (λ i l. ap not (eq-eqb (at slots i) (at slots i) refl))
 
 -- a refusal leaves the table, so nothing has changed
