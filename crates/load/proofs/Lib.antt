@@ -1,0 +1,5 @@
+pub mod Totals
+pub mod Keeping
+pub mod Shares
+pub mod Ranges
+pub mod Replies
