@@ -1,6 +1,6 @@
 -- A find's reply: what it is at each row, and the laws of it.
 -- Assumes nothing.
-use mathlib.Core.Path.{_≡_, sym, _∙_}
+use mathlib.Core.Path.{_≡_, refl, sym, _∙_}
 use mathlib.Core.Bool.{true, false}
 use mathlib.Core.Logic.{_≢_}
 use mathlib.Core.List.{List}
@@ -12,11 +12,11 @@ use lib.ListN.{length}
 use borrow.Author.Tests.{lt-ltb, le-ltb, eq-eqb, ne-eqb, leb-true, eqb-true, ltb-true, ltb-false}
 use Rattle.base.specs.Tables.{at}
 use Rattle.base.specs.Sizes.{slotsFit}
-use Rattle.base.specs.Rows.{lowest}
+use Rattle.base.specs.Rows.{lowest, risesFrom}
 use Rattle.base.proofs.Tests.{by-test, and-left, and-right}
 use Rattle.find.specs.Hash.{slotOf}
 use Rattle.find.specs.Reply.{lengthFits, tooLong, answerOf, found, refusal}
-use Rattle.find.specs.Laws.{FoundIsOwner, RefusedIsNothing, OneReply, OneView, OneReplyInView}
+use Rattle.find.specs.Laws.{RowsRise, FoundIsOwner, RefusedIsNothing, FindFixed, ViewFixed, FindInFixed}
 
 -- at each row ----------------------------------------------------------------------
 
@@ -67,6 +67,10 @@ slot-within table slots key t = rw (own-length slots (length table) t) (mod-lt _
 
 -- the laws ---------------------------------------------------------------------------
 
+pub rows-rise : RowsRise
+unfolding risesFrom
+rows-rise table slots key = refl
+
 -- an answer of 0 tells that no row holds
 module _ (table : List ℕ) (slots : ℕ) (key : List ℕ) (done : answerOf table slots key ≡ 0) where
   length-right : lengthFits slots (length table) ≡ true
@@ -92,11 +96,11 @@ unfolding found
 refused-is-nothing table slots key ne = (rw (ne-eqb _ _ ne), rw (ne-eqb _ _ ne))
 
 -- what equals the same reply is equal
-pub one-reply : OneReply
-one-reply table slots key x y a b = a ∙ sym b
+pub find-fixed : FindFixed
+find-fixed table slots key x y a b = a ∙ sym b
 
-pub one-view : OneView
-one-view owners stated x y a b = a ∙ sym b
+pub view-fixed : ViewFixed
+view-fixed owners stated x y a b = a ∙ sym b
 
-pub one-reply-in-view : OneReplyInView
-one-reply-in-view view key x y a b = a ∙ sym b
+pub find-in-fixed : FindInFixed
+find-in-fixed view key x y a b = a ∙ sym b

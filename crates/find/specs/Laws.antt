@@ -1,16 +1,18 @@
 -- What a find promises, as statements; the function `promises` holds them all.
 -- Assumes nothing.
 use mathlib.Core.Path.{_≡_}
+use mathlib.Core.Bool.{true}
 use mathlib.Core.Logic.{_≢_}
 use mathlib.Core.List.{List, [], _∷_, _++_}
 use Prim.Native.Nat.{ℕ, _<_}
 use lib.ListN.{length}
 use denote.Ref.{RefT}
 use Rattle.base.specs.Tables.{at}
+use Rattle.base.specs.Rows.{risesFrom}
 use Rattle.find.specs.declared.Found.{Found}
 use Rattle.find.specs.declared.View.{View}
 use Rattle.find.specs.Hash.{Rule, stepped, hashOf, slotOf}
-use Rattle.find.specs.Reply.{found, viewOf, foundIn}
+use Rattle.find.specs.Reply.{rows, found, viewOf, foundIn}
 
 -- by any rule a hash is a word
 abbrev pub HashIsWord : Type 0
@@ -19,6 +21,10 @@ HashIsWord = (rule : Rule) → rule .start < rule .words → (key : List ℕ) �
 -- by any rule one byte more at the end is one step more
 abbrev pub HashGrows : Type 0
 HashGrows = (rule : Rule) (key : List ℕ) (byte : ℕ) → hashOf rule (key ++ byte ∷ []) ≡ stepped rule (hashOf rule key) byte
+
+-- the rows rise in number, so that the answer is the lowest row that holds (`LowestIsFirst` of base)
+abbrev pub RowsRise : Type 0
+RowsRise = (table : List ℕ) (slots : ℕ) (key : List ℕ) → risesFrom 0 (rows table slots key) ≡ true
 
 -- where a find answers 0, the slot is the hash's, it is in the table, and the host is its owner, who is not nobody
 abbrev pub FoundIsOwner : Type 0
@@ -34,12 +40,12 @@ RefusedIsNothing =
     (found table slots key .slot ≡ 0) × (found table slots key .host ≡ 0)
 
 -- two replies that meet the contract of a find are equal
-abbrev pub OneReply : Type 0
-OneReply = (table : List ℕ) (slots : ℕ) (key : List ℕ) (x y : Found) → x ≡ found table slots key → y ≡ found table slots key → x ≡ y
+abbrev pub FindFixed : Type 0
+FindFixed = (table : List ℕ) (slots : ℕ) (key : List ℕ) (x y : Found) → x ≡ found table slots key → y ≡ found table slots key → x ≡ y
 
 -- and so are two views of a table, and two replies through one view
-abbrev pub OneView : Type 0
-OneView = (owners : RefT (List ℕ)) (stated : ℕ) (x y : View) → x ≡ viewOf owners stated → y ≡ viewOf owners stated → x ≡ y
+abbrev pub ViewFixed : Type 0
+ViewFixed = (owners : RefT (List ℕ)) (stated : ℕ) (x y : View) → x ≡ viewOf owners stated → y ≡ viewOf owners stated → x ≡ y
 
-abbrev pub OneReplyInView : Type 0
-OneReplyInView = (view : View) (key : List ℕ) (x y : Found) → x ≡ foundIn view key → y ≡ foundIn view key → x ≡ y
+abbrev pub FindInFixed : Type 0
+FindInFixed = (view : View) (key : List ℕ) (x y : Found) → x ≡ foundIn view key → y ≡ foundIn view key → x ≡ y

@@ -4,7 +4,7 @@ ghost use Prim.Native.Nat.{_*_, _%_, _^_};
 ghost use lib.ListN.{length};
 ghost use Rattle.find.specs.Hash.{fnv32, stepped, hashOf};
 ghost use Rattle.find.specs.Reply.{lengthFits, found, refusal, viewOf, foundIn};
-ghost use Rattle.find.specs.Laws.{HashIsWord, HashGrows, FoundIsOwner, RefusedIsNothing, OneReply, OneView, OneReplyInView};
+ghost use Rattle.find.specs.Laws.{HashIsWord, HashGrows, RowsRise, FoundIsOwner, RefusedIsNothing, FindFixed, ViewFixed, FindInFixed};
 
 // A find's reply: the answer, and with 0 the slot and its owner.
 pub struct Found {
@@ -124,6 +124,6 @@ pub fn look_up(table: &[u16], stated: usize, key: &[u8]) -> Found
 // The laws of a find: without their proofs this function is not proved.
 pub fn promises()
     ensures hashed { λ _. ⌜ HashIsWord × HashGrows ⌝ }
-    ensures owned { λ _. ⌜ FoundIsOwner × RefusedIsNothing ⌝ }
-    ensures one { λ _. ⌜ OneReply × OneView × OneReplyInView ⌝ }
+    ensures owned { λ _. ⌜ RowsRise × FoundIsOwner × RefusedIsNothing ⌝ }
+    ensures fixed { λ _. ⌜ FindFixed × ViewFixed × FindInFixed ⌝ }
 {}

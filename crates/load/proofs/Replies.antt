@@ -1,6 +1,6 @@
 -- The reply of the load question: what it is at each row, and the laws of it.
 -- Assumes nothing.
-use mathlib.Core.Path.{_≡_, sym, ap, _∙_}
+use mathlib.Core.Path.{_≡_, refl, sym, ap, _∙_}
 use mathlib.Core.Bool.{true, false}
 use mathlib.Core.Logic.{_≢_}
 use Prim.Native.Nat.{ℕ, suc, _≤_}
@@ -9,7 +9,7 @@ use native.Mathlib.Omega.{arith}
 use lib.Dec.{eqb}
 use borrow.Author.Tests.{eq-eqb, ne-eqb, eqb-true, le-leb}
 use Rattle.base.specs.Sizes.{slotsFit}
-use Rattle.base.specs.Rows.{lowest}
+use Rattle.base.specs.Rows.{lowest, risesFrom}
 use Rattle.base.proofs.Tests.{by-test, and-left, and-right, and-both}
 use Rattle.base.proofs.Entries.{length-table}
 use Rattle.quota.proofs.Laws.{sum-is-slots}
@@ -18,7 +18,7 @@ use Rattle.roster.specs.Roster.{ratesOf, valid}
 use Rattle.load.specs.declared.Carried.{Carried}
 use Rattle.load.specs.Load.{carriesAll}
 use Rattle.load.specs.Reply.{loadFits, answerOf, carried, refusal}
-use Rattle.load.specs.Laws.{AnsweredIsDivision, RefusedIsNo, LessIsCarried, QuotasKeepUp, OneReply}
+use Rattle.load.specs.Laws.{RowsRise, AnsweredIsDivision, RefusedIsNo, LessIsCarried, QuotasKeepUp, LoadFixed}
 use Rattle.load.proofs.Shares.{carries-is-division, less-carried, quotas-keep}
 use Rattle.load.proofs.Ranges.{to-last, rates-positive, some-rates}
 
@@ -45,6 +45,10 @@ module _ (r : Roster) (slots load : ℕ) where
         pub carried-done : loadFits load ≡ true → carried r slots load ≡ record { answer = 0; carries = carriesAll load slots (ratesOf r) }
         unfolding carried answerOf lowest
         carried-done t = rw (sizes, right, ne-eqb _ _ some, t)
+
+pub rows-rise : RowsRise
+unfolding risesFrom
+rows-rise r slots load = refl
 
 -- an answer of 0 tells that no row holds
 module _ (r : Roster) (slots load : ℕ) (done : carried r slots load .answer ≡ 0) where
@@ -99,5 +103,5 @@ pub refused-is-no : RefusedIsNo
 unfolding carried
 refused-is-no r slots load ne = rw (ne-eqb _ _ ne)
 
-pub one-reply : OneReply
-one-reply r slots load x y a b = a ∙ sym b
+pub load-fixed : LoadFixed
+load-fixed r slots load x y a b = a ∙ sym b

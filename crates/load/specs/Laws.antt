@@ -5,17 +5,22 @@ use mathlib.Core.Bool.{true, false}
 use mathlib.Core.Logic.{_↔_, _≢_}
 use mathlib.Core.List.{List}
 use Prim.Native.Nat.{ℕ, _≤_, _<_}
+use Rattle.base.specs.Rows.{risesFrom}
 use Rattle.quota.specs.Quota.{quotas}
 use Rattle.quota.specs.Laws.{Division}
 use Rattle.roster.specs.declared.Roster.{Roster}
 use Rattle.roster.specs.Roster.{ratesOf}
 use Rattle.load.specs.declared.Carried.{Carried}
 use Rattle.load.specs.Load.{AllKeepUp, Carries, carriesAll}
-use Rattle.load.specs.Reply.{carried}
+use Rattle.load.specs.Reply.{rows, carried}
 
 -- the test says yes exactly when some division of the slots lets every host keep up
 abbrev pub CarriesIsDivision : Type 0
 CarriesIsDivision = (load slots : ℕ) (rates : List ℕ) → (carriesAll load slots rates ≡ true) ↔ Carries load slots rates
+
+-- the rows rise in number, so that the answer is the lowest row that holds (`LowestIsFirst` of base)
+abbrev pub RowsRise : Type 0
+RowsRise = (r : Roster) (slots load : ℕ) → risesFrom 0 (rows r slots load) ≡ true
 
 -- where the question is answered with 0, yes or no is that of the division; a refusal says no
 abbrev pub AnsweredIsDivision : Type 0
@@ -37,5 +42,5 @@ QuotasKeepUp =
     Division (ratesOf r) slots (quotas (ratesOf r) slots) × AllKeepUp load slots (ratesOf r) (quotas (ratesOf r) slots)
 
 -- two replies that meet the contract are equal
-abbrev pub OneReply : Type 0
-OneReply = (r : Roster) (slots load : ℕ) (x y : Carried) → x ≡ carried r slots load → y ≡ carried r slots load → x ≡ y
+abbrev pub LoadFixed : Type 0
+LoadFixed = (r : Roster) (slots load : ℕ) (x y : Carried) → x ≡ carried r slots load → y ≡ carried r slots load → x ≡ y

@@ -6,7 +6,7 @@ ghost use lib.ListN.{length};
 ghost use Rattle.base.specs.Tables.{at, total};
 ghost use Rattle.load.specs.Load.{mostKept, carriesAll};
 ghost use Rattle.load.specs.Reply.{loadFits, carried, refusal};
-ghost use Rattle.load.specs.Laws.{CarriesIsDivision, LessIsCarried, QuotasKeepUp, AnsweredIsDivision, RefusedIsNo, OneReply};
+ghost use Rattle.load.specs.Laws.{RowsRise, CarriesIsDivision, LessIsCarried, QuotasKeepUp, AnsweredIsDivision, RefusedIsNo, LoadFixed};
 
 // The reply: the answer, and with 0 whether the load is carried.
 pub struct Carried {
@@ -97,7 +97,7 @@ pub fn carries(r: Roster, slots: u32, load: u32) -> Carried
 
 // The laws of the load question: without their proofs this function is not proved.
 pub fn promises()
-    ensures exact { λ _. ⌜ CarriesIsDivision × AnsweredIsDivision × RefusedIsNo ⌝ }
+    ensures exact { λ _. ⌜ RowsRise × CarriesIsDivision × AnsweredIsDivision × RefusedIsNo ⌝ }
     ensures steady { λ _. ⌜ LessIsCarried × QuotasKeepUp ⌝ }
-    ensures one { λ _. ⌜ OneReply ⌝ }
+    ensures fixed { λ _. ⌜ LoadFixed ⌝ }
 {}

@@ -1,6 +1,6 @@
 -- A report's answer at each row, what its plan comes to, and its laws.
 -- Assumes nothing.
-use mathlib.Core.Path.{_≡_, sym, _∙_}
+use mathlib.Core.Path.{_≡_, refl, sym, _∙_}
 use mathlib.Core.Bool.{true, false}
 use mathlib.Core.Logic.{_≢_}
 use Prim.Native.Nat.{ℕ}
@@ -8,12 +8,12 @@ use native.Mathlib.Omega.{arith}
 use lib.Dec.{eqb}
 use borrow.Author.Tests.{eq-eqb, ne-eqb, eqb-true, eqb-false}
 use Rattle.base.specs.Sizes.{slotsFit}
-use Rattle.base.specs.Rows.{lowest}
+use Rattle.base.specs.Rows.{lowest, risesFrom}
 use Rattle.base.proofs.Tests.{by-test}
 use Rattle.roster.specs.declared.Roster.{Roster}
 use Rattle.roster.specs.Roster.{valid}
 use Rattle.report.specs.Report.{answerOf, reported}
-use Rattle.report.specs.Laws.{OneRecordAHost, RefusedUnwritten, OneReply}
+use Rattle.report.specs.Laws.{RowsRise, OneRecordAHost, RefusedUnwritten, ReportFixed}
 use Rattle.report.proofs.Lists.{length-listed, at-listed}
 
 -- at each row ----------------------------------------------------------------------
@@ -53,6 +53,10 @@ module _ (r : Roster) (slots records : ℕ) (done : answerOf r slots records ≡
 
 -- the laws -------------------------------------------------------------------------
 
+pub rows-rise : RowsRise
+unfolding risesFrom
+rows-rise r slots records = refl
+
 pub one-record-a-host : OneRecordAHost
 unfolding reported
 one-record-a-host r slots out done = rw done (length-listed (r .count) _, (λ i other l. at-listed (r .count) _ i other l))
@@ -61,5 +65,5 @@ pub refused-unwritten : RefusedUnwritten
 unfolding reported
 refused-unwritten r slots out ne = rw (ne-eqb _ _ ne)
 
-pub one-reply : OneReply
-one-reply r slots out a b x y p q = (p .0 ∙ sym (q .0), p .1 ∙ sym (q .1))
+pub report-fixed : ReportFixed
+report-fixed r slots out a b x y p q = (p .0 ∙ sym (q .0), p .1 ∙ sym (q .1))

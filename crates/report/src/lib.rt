@@ -5,7 +5,7 @@ ghost use Prim.Native.Nat.{_<_};
 ghost use lib.ListN.{length};
 ghost use Rattle.report.specs.Report.{answerOf, reported};
 ghost use Rattle.report.specs.Plan.{recordAt, Planned};
-ghost use Rattle.report.specs.Laws.{OneRecordAHost, RefusedUnwritten, OneReply};
+ghost use Rattle.report.specs.Laws.{RowsRise, OneRecordAHost, RefusedUnwritten, ReportFixed};
 
 // A host as the report tells it.
 pub struct HostRecord {
@@ -104,6 +104,6 @@ pub fn report(r: Roster, slots: u32, out: &mut [HostRecord]) -> u32
 
 // The laws of a report: without their proofs this function is not proved.
 pub fn promises()
-    ensures filled { λ _. ⌜ OneRecordAHost × RefusedUnwritten ⌝ }
-    ensures one { λ _. ⌜ OneReply ⌝ }
+    ensures filled { λ _. ⌜ RowsRise × OneRecordAHost × RefusedUnwritten ⌝ }
+    ensures fixed { λ _. ⌜ ReportFixed ⌝ }
 {}

@@ -2,7 +2,7 @@
 -- Assumes nothing.
 use borrow.Author.Needs.{needs}
 use native.Mathlib.Omega.{arith}
-use Prim.Native.Nat.{_%_, _<_}
+use Prim.Native.Nat.{_%_, _≤_, _<_}
 use mathlib.Core.Path.{_≡_, sym, ap, _∙_}
 use mathlib.Core.Bool.{true}
 use lib.ListN.{length}
@@ -31,7 +31,13 @@ fits : (c : tie.Else1) → let args = c .before .before .before .before .args in
 fits c = passed (c .before .length-fits .ensures) (c .if1 .left)
 
 returns-2 : tie.Need-returns-2
-returns-2 c = c .refused2 .ensures ∙ sym (found-key _ _ _ (fits (c .before .before)) (c .before .if2 .taken))
+returns-2 c =
+    let args = c .before .before .before .before .before .before .args in
+    c .refused2 .ensures ∙ sym (found-key (args .table .now) (args .stated) (args .key .now) (fits (c .before .before)) (omega arith))
+
+-- past the second test the key is not too long
+short : (c : tie.Else2) → length (c .before .before .before .before .before .args .key .now) ≤ 4096
+short c = omega arith
 
 hash-requires : tie.Need-hash-requires
 hash-requires c κs = search needs
@@ -63,13 +69,13 @@ returns-3 c =
     let at-hash = c .before .before .before in
     let table = at-hash .before .before .before .before .before .before .args .table .now in
     let nobody = ap (at table) (sym (slot-is at-hash)) ∙ c .before .if3 .taken in
-    c .refused3 .ensures ∙ sym (found-nobody _ _ _ (fits (at-hash .before .before)) (at-hash .before .if2 .left) nobody)
+    c .refused3 .ensures ∙ sym (found-nobody _ _ _ (fits (at-hash .before .before)) (short (at-hash .before)) nobody)
 
 returns-4 : tie.Need-returns-4
 returns-4 c =
     let at-hash = c .before .before in
     let table = at-hash .before .before .before .before .before .before .args .table .now in
-    rw (slot-is at-hash) (sym (found-done _ _ _ (fits (at-hash .before .before)) (at-hash .before .if2 .left) (λ e. c .if3 .left (ap (at table) (slot-is at-hash) ∙ e))))
+    rw (slot-is at-hash) (sym (found-done _ _ _ (fits (at-hash .before .before)) (short (at-hash .before)) (λ e. c .if3 .left (ap (at table) (slot-is at-hash) ∙ e))))
 
 pub find-spec : {M : Type 1} → statement M
 find-spec =
