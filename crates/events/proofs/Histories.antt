@@ -11,6 +11,7 @@ use lib.Dec.{leb}
 use lib.IntN.{pos, _-ℤ_}
 use lib.ListN.{length, set, replicate, length-replicate, getD-replicate}
 use borrow.Author.Tests.{eq-eqb, ne-eqb, eqb-true, leb-true}
+use Rattle.base.specs.Rows.{risesFrom}
 use Rattle.base.specs.Sizes.{slotsFit}
 use Rattle.base.specs.Tables.{sum, at, total}
 use Rattle.base.specs.Lists.{insertAt, removeAt}
@@ -37,7 +38,7 @@ use Rattle.events.specs.declared.Event.{Event}
 use Rattle.events.specs.declared.Event.the-variants.{Add, Drop, Rate}
 use Rattle.events.specs.Events.{named, changed, changeRows, badHost, answerOf, rosterAfter, tableAfter}
 use Rattle.events.specs.Forecasts.{hostQuota}
-use Rattle.events.specs.Demand3.{Reached, begin, next, slotsAt, StaysRight, SlotsSum, NoSmallerRatio, WithinBound, OnlyTheNamed, CountIsTrue, NoFewer, RefusedKeeps, ForecastIsTrue, ReplyFixed, ForecastFixed}
+use Rattle.events.specs.Demand3.{Reached, begin, next, slotsAt, StaysRight, SlotsSum, NoSmallerRatio, WithinBound, OnlyTheNamed, CountIsTrue, NoFewer, RefusedKeeps, ForecastIsTrue, RowsRise, ReplyFixed, ForecastFixed}
 use Rattle.events.proofs.OneHost.{only-added, only-dropped, only-rerated, add-allowed, drop-allowed, rate-allowed}
 use Rattle.events.proofs.Outcomes.{changed-sized, accepted-check, accepted-event, named-fits, row-passed, kept-roster, kept-table, none-moved, new-roster, new-table, new-moved, passed-forecast, forecast-made}
 
@@ -173,6 +174,10 @@ forecast-is-true S fits r slots h e z asked good =
     (answer, forecast-made r S e asked answer ∙ ap₂ (λ a b. pos a -ℤ pos b) (sym there) (sym (held-quota w asked some)))
 
 -- one reply ---------------------------------------------------------------------------------------
+
+pub rows-rise : RowsRise
+unfolding risesFrom
+rows-rise S r slots e asked = (refl, refl)
 
 pub reply-fixed : ReplyFixed
 reply-fixed S r slots e x y t u p q v w = (p ∙ sym q, v ∙ sym w)

@@ -7,6 +7,7 @@ use mathlib.Core.List.{List}
 use Prim.Native.Nat.{ℕ, _+_, _-_, _*_, _≤_, _<_}
 use lib.IntN.{pos, _-ℤ_}
 use lib.ListN.{length, replicate}
+use Rattle.base.specs.Rows.{risesFrom}
 use Rattle.base.specs.Sizes.{hostFits, slotsFit}
 use Rattle.base.specs.Tables.{sum, at, total}
 use Rattle.quota.specs.Laws.{Division}
@@ -18,8 +19,8 @@ use Rattle.table.specs.Table.{belongs}
 use Rattle.events.specs.declared.Event.{Event}
 use Rattle.events.specs.declared.Reply.{Reply}
 use Rattle.events.specs.declared.Foreseen.{Foreseen}
-use Rattle.events.specs.Events.{named, answerOf, rosterAfter, tableAfter, movedBy, replyOf}
-use Rattle.events.specs.Forecasts.{forecastAnswer, changeOf, forecastOf}
+use Rattle.events.specs.Events.{named, applyRows, answerOf, rosterAfter, tableAfter, movedBy, replyOf}
+use Rattle.events.specs.Forecasts.{forecastRows, forecastAnswer, changeOf, forecastOf}
 
 -- the states reached: no hosts and S unowned slots, and after each event, accepted or refused, the roster and the table that it leaves
 pub data Reached (S : ℕ) : Roster → List ℕ → Type 0 where
@@ -80,6 +81,12 @@ abbrev pub ForecastIsTrue : Type 0
 ForecastIsTrue =
     Always (λ S r slots. (e : Event) → answerOf r S e slots ≡ 0 → (asked : ℕ) → hostFits asked ≡ true →
     (forecastAnswer r S e asked ≡ 0) × (changeOf r S e asked ≡ pos (held (tableAfter r S e slots) asked) -ℤ pos (held slots asked)))
+
+-- the rows rise in number, so that each answer is the lowest row that holds (`LowestIsFirst` of base)
+abbrev pub RowsRise : Type 0
+RowsRise =
+    (S : ℕ) (r : Roster) (slots : List ℕ) (e : Event) (asked : ℕ) →
+    (risesFrom 0 (applyRows r S e slots) ≡ true) × (risesFrom 0 (forecastRows r S e asked) ≡ true)
 
 -- over every input, two replies that meet a contract are equal, and so are the tables they leave
 abbrev pub ReplyFixed : Type 0

@@ -69,10 +69,13 @@ changed r (Add host rate) = added r host rate
 changed r (Drop host) = dropped r host
 changed r (Rate host rate) = rerated r host rate
 
--- the answer: the lowest row of 1, 2, 3, then 4 to 8, then 14
+-- the rows of an event: 1, 2, 3, then 4 to 8, then 14
+abbrev pub applyRows : Roster → ℕ → Event → List ℕ → List Row
+applyRows r S e slots = (sizeRows r S (length slots) ++ tableRows r S slots) ++ eventRows r e ++ moveRows (changed r e) S slots
+
+-- the answer: the lowest row that holds
 unfoldable pub answerOf : Roster → ℕ → Event → List ℕ → ℕ
-answerOf r S e slots =
-    lowest ((sizeRows r S (length slots) ++ tableRows r S slots) ++ eventRows r e ++ moveRows (changed r e) S slots)
+answerOf r S e slots = lowest (applyRows r S e slots)
 
 -- what an accepted event leaves; a refused one leaves what it was given, and reports nothing moved
 unfoldable pub rosterAfter : Roster → ℕ → Event → List ℕ → Roster

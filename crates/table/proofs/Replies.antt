@@ -23,7 +23,7 @@ use Rattle.table.specs.declared.Checked.{Checked}
 use Rattle.table.specs.declared.Moved.{Moved}
 use Rattle.table.specs.Table.{noHosts, belongs, known, stranger, owners, fresh, rearranged, freedSlots}
 use Rattle.table.specs.Answers.{sizeRows, tableRows, moveRows, checkAnswer, checked, layoutAnswer, laidOut, moveAnswer, movedTo, moveReply}
-use Rattle.table.specs.Laws.{Sized, MoveAnswersZero, CheckFixed, LayoutFixed, MoveFixed}
+use Rattle.table.specs.Laws.{Sized, MoveAnswersZero, RowsRise, CheckFixed, LayoutFixed, MoveFixed}
 use Rattle.table.proofs.Owners.{known-owner, belongs-exact}
 use Rattle.table.proofs.Moves.{as-many, belongs-none-freed, none-freed-belongs, fewest-moves}
 
@@ -177,6 +177,10 @@ unfolding layoutAnswer laidOut
 layout-done r S slots z = let e = sized-sizes r S slots z in (e, rw e refl)
 
 -- one reply ------------------------------------------------------------------------------------
+
+pub rows-rise : RowsRise
+unfolding risesFrom
+rows-rise r S slots = (refl, refl)
 
 pub check-fixed : CheckFixed
 check-fixed r S slots x y p q = p ∙ sym q

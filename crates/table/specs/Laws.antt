@@ -2,9 +2,10 @@
 -- Assumes nothing.
 use mathlib.Core.Path.{_≡_}
 use mathlib.Core.Bool.{true}
-use mathlib.Core.List.{List}
+use mathlib.Core.List.{List, _++_}
 use Prim.Native.Nat.{ℕ, _≤_}
 use lib.ListN.{length, replicate}
+use Rattle.base.specs.Rows.{risesFrom}
 use Rattle.base.specs.Sizes.{slotsFit}
 use Rattle.roster.specs.declared.Roster.{Roster}
 use Rattle.roster.specs.Roster.{valid}
@@ -12,7 +13,7 @@ use Rattle.mover.specs.Mover.{changes}
 use Rattle.table.specs.declared.Checked.{Checked}
 use Rattle.table.specs.declared.Moved.{Moved}
 use Rattle.table.specs.Table.{noHosts, belongs, fresh, rearranged, freedSlots}
-use Rattle.table.specs.Answers.{checked, layoutAnswer, laidOut, moveAnswer, movedTo, moveReply}
+use Rattle.table.specs.Answers.{sizeRows, tableRows, moveRows, checked, layoutAnswer, laidOut, moveAnswer, movedTo, moveReply}
 
 -- a valid roster, a slot count in range, and a table of that length
 pub record Sized (r : Roster) (S : ℕ) (slots : List ℕ) : Type 0 where
@@ -48,6 +49,12 @@ BelongingStays = (r : Roster) (S : ℕ) (slots : List ℕ) → Sized r S slots �
 -- row 14 is never given: the freed slots are always as many as the hosts lack
 abbrev pub MoveAnswersZero : Type 0
 MoveAnswersZero = (r : Roster) (S : ℕ) (slots : List ℕ) → Sized r S slots → moveAnswer r S slots ≡ 0
+
+-- the rows rise in number, so that each answer is the lowest row that holds (`LowestIsFirst` of base)
+abbrev pub RowsRise : Type 0
+RowsRise =
+    (r : Roster) (S : ℕ) (slots : List ℕ) →
+    (risesFrom 0 (sizeRows r S (length slots) ++ tableRows r S slots) ≡ true) × (risesFrom 0 (sizeRows r S (length slots) ++ moveRows r S slots) ≡ true)
 
 -- two replies that meet a contract are equal, and so are the tables they leave
 abbrev pub CheckFixed : Type 0

@@ -14,7 +14,7 @@ ghost use Rattle.mover.specs.Laws.{Fitting};
 ghost use Rattle.mover.specs.Pass.{pass, frees};
 ghost use Rattle.table.specs.Table.{owners, shares};
 ghost use Rattle.table.specs.Answers as answers;
-ghost use Rattle.table.specs.Laws.{FreshBelongs, RearrangedBelongs, NoHostsZero, BelongingStays, FewestMoves, MoveAnswersZero};
+ghost use Rattle.table.specs.Laws.{FreshBelongs, RearrangedBelongs, NoHostsZero, BelongingStays, FewestMoves, MoveAnswersZero, RowsRise};
 ghost use Rattle.table.specs.Laws.{CheckFixed, LayoutFixed, MoveFixed};
 ghost use Rattle.table.specs.Seat.{Seat, NextShort};
 
@@ -294,6 +294,6 @@ pub fn layout(r: Roster, slots: u32, table: &mut [u16]) -> u32
 // The laws of tables: without their proofs this function is not proved.
 pub fn promises()
     ensures belong { λ _. ⌜ FreshBelongs × RearrangedBelongs × NoHostsZero × BelongingStays ⌝ }
-    ensures fewest { λ _. ⌜ FewestMoves × MoveAnswersZero ⌝ }
+    ensures fewest { λ _. ⌜ FewestMoves × MoveAnswersZero × RowsRise ⌝ }
     ensures fixed { λ _. ⌜ CheckFixed × LayoutFixed × MoveFixed ⌝ }
 {}
