@@ -1,0 +1,4 @@
+pub mod Texts
+pub mod Starts
+pub mod Dues
+pub mod Promised
