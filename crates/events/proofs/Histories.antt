@@ -1,7 +1,7 @@
 -- Demand 3: every reached state is right, and what follows from that for the slots, the moves and the forecasts.
 -- Assumes nothing.
 use mathlib.Core.Path.{_≡_, refl, sym, ap, ap₂, _∙_, subst, subst₂}
-use mathlib.Core.Bool.{true, false, not}
+use mathlib.Core.Bool.{true, false, not, _&&_}
 use mathlib.Core.Logic.{_⊎_, inl, inr, ⊎-elim}
 use mathlib.Core.List.{List}
 use Prim.Native.Nat.{ℕ, _+_, _-_, _*_, _≤_, _<_}
@@ -10,14 +10,15 @@ use native.Mathlib.Omega.{arith}
 use lib.Dec.{leb}
 use lib.IntN.{pos, _-ℤ_}
 use lib.ListN.{length, set, replicate, length-replicate, getD-replicate}
+use lib.Seq.{getD-take}
 use borrow.Author.Tests.{eq-eqb, ne-eqb, eqb-true, leb-true}
-use Rattle.base.specs.Rows.{risesFrom}
-use Rattle.base.specs.Sizes.{slotsFit}
+use Rattle.base.specs.Rows.{risesFrom, lowest}
+use Rattle.base.specs.Sizes.{slotsFit, hostFits, rateFits}
 use Rattle.base.specs.Tables.{sum, at, total}
 use Rattle.base.specs.Lists.{insertAt, removeAt}
 use Rattle.base.proofs.Sums.{sum-ext}
 use Rattle.base.proofs.Entries.{at-table, length-insert}
-use Rattle.base.proofs.Tests.{by-test, never, and-left, all-of}
+use Rattle.base.proofs.Tests.{by-test, never, and-left, and-right, all-of}
 use Rattle.quota.specs.Quota.{quota, quotas}
 use Rattle.quota.proofs.Laws.{quota-sum, least-greatest-ratio, bounded}
 use Rattle.roster.specs.declared.Roster.{Roster}
@@ -26,21 +27,23 @@ use Rattle.roster.specs.Changes.{none, mayAdd, mayDrop, mayRerate, placeIn, add
 use Rattle.roster.proofs.Facts.{facts, length-hosts, length-rates, hosts-rise}
 use Rattle.roster.proofs.Search.{place-fits, on-place}
 use Rattle.roster.proofs.Changes.{none-valid, added-valid, dropped-valid, rerated-valid, added-only, dropped-only, rerated-only, add-rate-fits, drop-place, drop-there, rate-place, rate-there, rate-rate-fits}
+use Rattle.roster.proofs.Made.{same-rate}
 use Rattle.mover.specs.Mover.{held, quotaOf, newOwner, changes}
 use Rattle.mover.specs.Laws.{Exact}
 use Rattle.mover.proofs.Laws.{exact-held, quota-off, changed-is-freed, from-above-to-below}
-use Rattle.table.specs.Table.{noHosts, belongs, owners, shares}
+use Rattle.table.specs.Table.{noHosts, belongs, owners, shares, rearranged}
+use Rattle.table.specs.Answers.{checkAnswer}
 use Rattle.table.specs.Laws.{Sized}
 use Rattle.table.proofs.Owners.{rates-positive, owners-rise, owners-none, owners-some, shares-none, shares-some, alone-on, belongs-exact}
-use Rattle.table.proofs.Moves.{fits as fits-table, rearranged-belongs, fewest-moves, zero-off}
+use Rattle.table.proofs.Moves.{fits as fits-table, rearranged-belongs, fewest-moves, belonging-stays, zero-off}
 use Rattle.table.proofs.Replies.{no-change}
 use Rattle.events.specs.declared.Event.{Event}
 use Rattle.events.specs.declared.Event.the-variants.{Add, Drop, Rate}
-use Rattle.events.specs.Events.{named, changed, changeRows, badHost, answerOf, rosterAfter, tableAfter}
+use Rattle.events.specs.Events.{named, changed, changeRows, eventRows, badHost, answerOf, rosterAfter, tableAfter}
 use Rattle.events.specs.Forecasts.{hostQuota}
-use Rattle.events.specs.Demand3.{Reached, begin, next, slotsAt, StaysRight, SlotsSum, NoSmallerRatio, WithinBound, OnlyTheNamed, CountIsTrue, NoFewer, RefusedKeeps, ForecastIsTrue, RowsRise, ReplyFixed, ForecastFixed}
+use Rattle.events.specs.Demand3.{Reached, begin, next, slotsAt, StaysRight, SlotsSum, NoSmallerRatio, WithinBound, OnlyTheNamed, CountIsTrue, NoFewer, RefusedKeeps, rateAgain, SameRateStays, ForecastIsTrue, RowsRise, ReplyFixed, ForecastFixed}
 use Rattle.events.proofs.OneHost.{only-added, only-dropped, only-rerated, add-allowed, drop-allowed, rate-allowed}
-use Rattle.events.proofs.Outcomes.{changed-sized, accepted-check, accepted-event, named-fits, row-passed, kept-roster, kept-table, none-moved, new-roster, new-table, new-moved, passed-forecast, forecast-made}
+use Rattle.events.proofs.Outcomes.{changed-sized, accepted, accepted-check, accepted-event, named-fits, row-passed, kept-roster, kept-table, none-moved, new-roster, new-table, new-moved, passed-forecast, forecast-made}
 
 -- every reached state is right ------------------------------------------------------------
 
@@ -154,6 +157,26 @@ no-fewer S fits r slots h e z other long b =
 
 pub refused-keeps : RefusedKeeps
 refused-keeps S r slots e ne = (kept-roster r S e slots ne, kept-table r S e slots ne, none-moved r S e slots ne)
+
+-- a right state passes the check
+checks-out : {S : ℕ} {r : Roster} {slots : List ℕ} → Right S r slots → checkAnswer r S slots ≡ 0
+unfolding checkAnswer lowest
+checks-out {S} {r} {slots} w = rw (w .sized .count-fits, w .sized .that-long, w .sized .valid-roster, eq-eqb S S refl, w .belonging) refl
+
+pub same-rate-stays : SameRateStays
+unfolding lowest mayRerate
+same-rate-stays S fits r slots h j l =
+    let w = reached-right fits h in
+    let v = w .sized .valid-roster in
+    let e = rateAgain r j in
+    let s = same-rate r v j l in
+    let good = getD-take (r .count) (r .hosts) j 0 l in
+    let on : isOn (hostsOf r) (named e) ≡ true = and-right (valid r && rateFits (at (ratesOf r) j)) _ (s .0) in
+    let fit : hostFits (named e) ≡ true = ap hostFits good ∙ facts r v .host-fits j l in
+    let rows : lowest (eventRows r e) ≡ 0 = rw (fit, rate-rate-fits r (named e) (at (ratesOf r) j) (s .0), on) refl in
+    let z = accepted r S e slots (checks-out w) rows in
+    let table : tableAfter r S e slots ≡ slots = new-table r S e slots z ∙ ap (λ c. rearranged c S slots) (s .1) ∙ belonging-stays r S slots (w .sized) (w .belonging) in
+    (z, new-roster r S e slots z ∙ s .1, table, count-is-true S r slots e ∙ ap (changes slots) table ∙ no-change slots)
 
 -- forecasts --------------------------------------------------------------------------------------
 

@@ -17,6 +17,7 @@ use Rattle.roster.specs.Changes.{none}
 use Rattle.mover.specs.Mover.{held, changes}
 use Rattle.table.specs.Table.{belongs}
 use Rattle.events.specs.declared.Event.{Event}
+use Rattle.events.specs.declared.Event.the-variants.{Rate}
 use Rattle.events.specs.declared.Reply.{Reply}
 use Rattle.events.specs.declared.Foreseen.{Foreseen}
 use Rattle.events.specs.Events.{named, applyRows, answerOf, rosterAfter, tableAfter, movedBy, replyOf}
@@ -75,6 +76,17 @@ abbrev pub RefusedKeeps : Type 0
 RefusedKeeps =
     (S : ℕ) (r : Roster) (slots : List ℕ) (e : Event) → (answerOf r S e slots ≡ 0 → ⊥) →
     (rosterAfter r S e slots ≡ r) × (tableAfter r S e slots ≡ slots) × (movedBy r S e slots ≡ 0)
+
+-- the rate that the host at place j has, given to it again
+abbrev pub rateAgain : Roster → ℕ → Event
+rateAgain r j = Rate (at (hostsOf r) j) (at (ratesOf r) j)
+
+-- is accepted, and changes nothing
+abbrev pub SameRateStays : Type 0
+SameRateStays =
+    Always (λ S r slots. (j : ℕ) → j < r .count →
+    (answerOf r S (rateAgain r j) slots ≡ 0) × (rosterAfter r S (rateAgain r j) slots ≡ r)
+    × (tableAfter r S (rateAgain r j) slots ≡ slots) × (movedBy r S (rateAgain r j) slots ≡ 0))
 
 -- the forecast of a host is its slots after the event less its slots before
 abbrev pub ForecastIsTrue : Type 0

@@ -10,7 +10,7 @@ ghost use Rattle.roster.specs.Roster as rosters;
 ghost use Rattle.events.specs.Events as events;
 ghost use Rattle.events.specs.Forecasts as forecasts;
 ghost use Rattle.events.specs.Demand3.{StaysRight, SlotsSum, NoSmallerRatio, WithinBound, OnlyTheNamed, CountIsTrue, NoFewer, RefusedKeeps};
-ghost use Rattle.events.specs.Demand3.{ForecastIsTrue, RowsRise, ReplyFixed, ForecastFixed};
+ghost use Rattle.events.specs.Demand3.{SameRateStays, ForecastIsTrue, RowsRise, ReplyFixed, ForecastFixed};
 
 // A change of the roster, with the host it names. Numbers are wide enough to be out of range.
 pub enum Event {
@@ -220,7 +220,7 @@ fn forecast_answer(r: Roster, slots: u32, event: Event, asked: u32) -> u32
 // Demand 3 over every history, and that replies are fixed: without their proofs this function is not proved.
 pub fn promises()
     ensures states { λ _. ⌜ StaysRight × SlotsSum × NoSmallerRatio × WithinBound ⌝ }
-    ensures moves { λ _. ⌜ OnlyTheNamed × CountIsTrue × NoFewer × RefusedKeeps ⌝ }
+    ensures moves { λ _. ⌜ OnlyTheNamed × CountIsTrue × NoFewer × RefusedKeeps × SameRateStays ⌝ }
     ensures forecasts { λ _. ⌜ ForecastIsTrue × RowsRise ⌝ }
     ensures fixed { λ _. ⌜ ReplyFixed × ForecastFixed ⌝ }
 {}

@@ -1,19 +1,24 @@
 -- The rosters that the three changes make, array by array, are those of the definitions.
 -- Assumes nothing.
-use mathlib.Core.Path.{_≡_, sym, ap, _∙_, subst}
+use mathlib.Core.Path.{_≡_, refl, sym, ap, _∙_, subst}
+use mathlib.Core.Logic.{by-cases}
 use mathlib.Core.Bool.{true}
 use mathlib.Core.List.{List, [], _∷_, _++_}
-use Prim.Native.Nat.{ℕ, suc, _+_, _-_, _≤_}
+use Prim.Native.Nat.{ℕ, suc, _+_, _-_, _≤_, _<_}
 use native.Mathlib.Numerals.{add-one}
 use native.Mathlib.Omega.{arith}
-use lib.ListN.{length, take, set}
+use native.Mathlib.Decide.{ℕ-discrete}
+use lib.ListN.{length, take, set, length-set}
+use lib.Seq.{ext-getD, getD-take, getD-set-same, getD-set-other}
+use Rattle.base.specs.Tables.{at}
 use Rattle.base.specs.Lists.{insertAt, removeAt}
 use Rattle.base.proofs.Entries.{length-insert, length-remove}
 use Rattle.roster.specs.declared.Roster.{Roster}
-use Rattle.roster.specs.Roster.{hostsOf}
+use Rattle.roster.specs.Roster.{hostsOf, ratesOf, isOn}
+use Rattle.roster.specs.Laws.{SameRate}
 use Rattle.roster.specs.Changes.{mayAdd, mayDrop, mayRerate, placeIn, added, dropped, rerated}
-use Rattle.roster.proofs.Facts.{Facts, facts, length-hosts}
-use Rattle.roster.proofs.Search.{place-fits}
+use Rattle.roster.proofs.Facts.{Facts, facts, length-hosts, hosts-rise}
+use Rattle.roster.proofs.Search.{place-fits, place-at, on-there}
 use Rattle.roster.proofs.Changes.{add-valid, add-room, drop-valid, drop-place, rate-valid, rate-place, added-is, dropped-is, rerated-is}
 use Rattle.roster.proofs.Arrays.{array-kept, array-put, array-taken, array-set}
 
@@ -66,3 +71,22 @@ module _ (r : Roster) (host rate : ℕ) (t : mayRerate r host rate ≡ true) whe
       (ap (λ k. set (r .rates) k rate) e ∙ array-set (r .rates) (r .count) (f .rates-long) (f .few) (f .no-rate) (placeIn r host) rate (rate-place r host rate t))
       (sym (length-hosts r f))
       ∙ sym (rerated-is r host rate t)
+
+-- an entry set to what it is leaves the list as it was
+set-self : (l : List ℕ) (p : ℕ) → p < length l → set l p (at l p) ≡ l
+set-self l p h =
+    ext-getD 0 (set l p (at l p)) l (length-set l p (at l p))
+    (λ i w. by-cases (ℕ-discrete i p) (λ e. rw e (getD-set-same l p (at l p) 0 h)) (getD-set-other l p i (at l p) 0))
+
+pub same-rate : SameRate
+unfolding mayRerate
+same-rate r v i l =
+    let f = facts r v in
+    let hosts = hostsOf r in
+    let host = at hosts i in
+    let here : i < length hosts = rw (length-hosts r f) l in
+    let place : placeIn r host ≡ i = place-at hosts (hosts-rise r f) host i here refl in
+    let on : isOn hosts host ≡ true = on-there hosts (hosts-rise r f) host (rw place here) (ap (at hosts) place) in
+    let same : at (ratesOf r) i ≡ at (r .rates) i = getD-take (r .count) (r .rates) i 0 l in
+    let may : mayRerate r host (at (ratesOf r) i) ≡ true = rw (v, same, f .rate-fits i l, on) refl in
+    (may, sym (made-rerated r host (at (ratesOf r) i) may i (sym place)) ∙ ap (λ c. record { hosts = r .hosts; rates = c; count = r .count }) (ap (set (r .rates) i) same ∙ set-self (r .rates) i (omega (arith, f .rates-long, f .few, l))))

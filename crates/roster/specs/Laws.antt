@@ -2,8 +2,9 @@
 -- Assumes nothing.
 use mathlib.Core.Path.{_≡_}
 use mathlib.Core.Bool.{true, false}
-use Prim.Native.Nat.{ℕ}
+use Prim.Native.Nat.{ℕ, _<_}
 use lib.ListN.{set}
+use Rattle.base.specs.Tables.{at}
 use Rattle.base.specs.Lists.{insertAt, removeAt}
 use Rattle.roster.specs.declared.Roster.{Roster}
 use Rattle.roster.specs.Roster.{hostsOf, ratesOf, valid, isOn}
@@ -38,6 +39,12 @@ abbrev pub ReratedOnly : Type 0
 ReratedOnly =
     (r : Roster) (host rate : ℕ) → mayRerate r host rate ≡ true →
     (hostsOf (rerated r host rate) ≡ hostsOf r) × (ratesOf (rerated r host rate) ≡ set (ratesOf r) (placeIn r host) rate)
+
+-- a host may be given the rate it has, and that changes nothing
+abbrev pub SameRate : Type 0
+SameRate =
+    (r : Roster) → valid r ≡ true → (i : ℕ) → i < r .count →
+    (mayRerate r (at (hostsOf r) i) (at (ratesOf r) i) ≡ true) × (rerated r (at (hostsOf r) i) (at (ratesOf r) i) ≡ r)
 
 -- a host that is there is not added, and one that is not is neither dropped nor given a rate
 abbrev pub NoSecondAdd : Type 0

@@ -9,7 +9,7 @@ ghost use Rattle.base.specs.Lists.{insertAt, removeAt};
 ghost use Rattle.roster.specs.Roster.{isOn, Rises};
 ghost use Rattle.roster.specs.Roster as roster;
 ghost use Rattle.roster.specs.Changes as changes;
-ghost use Rattle.roster.specs.Laws.{NoneValid, AddedValid, DroppedValid, ReratedValid, AddedOnly, DroppedOnly, ReratedOnly};
+ghost use Rattle.roster.specs.Laws.{NoneValid, AddedValid, DroppedValid, ReratedValid, AddedOnly, DroppedOnly, ReratedOnly, SameRate};
 ghost use Rattle.roster.specs.Laws.{NoSecondAdd, NoAbsentDrop, NoAbsentRate};
 ghost use Rattle.roster.specs.Places.{placeRight, rightAt};
 
@@ -260,6 +260,6 @@ pub fn rerated(r: Roster, host: u16, rate: u32) -> Roster
 // The laws of a roster's changes: without their proofs this function is not proved.
 pub fn promises()
     ensures sound { λ _. ⌜ NoneValid × AddedValid × DroppedValid × ReratedValid ⌝ }
-    ensures exact { λ _. ⌜ AddedOnly × DroppedOnly × ReratedOnly ⌝ }
+    ensures exact { λ _. ⌜ AddedOnly × DroppedOnly × ReratedOnly × SameRate ⌝ }
     ensures refused { λ _. ⌜ NoSecondAdd × NoAbsentDrop × NoAbsentRate ⌝ }
 {}
