@@ -226,7 +226,7 @@ fn move_slots(hosts: &[u16], room: &mut [u32], short: &mut [u32], table: &mut [u
 }
 
 // Gives every slot to nobody.
-fn clear(table: &mut [u16])
+pub fn clear(table: &mut [u16])
     ensures { λ _. ⌜ now (table .exit) ≡ replicate (length (now (table .entry))) 0 ⌝ }
 {
     let mut i = 0;

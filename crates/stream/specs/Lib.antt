@@ -1,0 +1,5 @@
+pub mod Steps
+pub mod Text
+pub mod Meaning
+pub mod Samples
+pub mod Laws
