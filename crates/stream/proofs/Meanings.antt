@@ -26,4 +26,4 @@ stopped-silent s owners piece (byte ∷ bytes) e =
     (λ f. rw f (stopped-silent s owners (piece ++ byte ∷ []) bytes e))
 
 pub taken-fixed : TakenFixed
-taken-fixed s owners line x y p q = p ∙ sym q
+taken-fixed s owners line x y t u p q v w = (p ∙ sym q, v ∙ sym w)

@@ -6,13 +6,15 @@ use mathlib.Core.List.{List, []}
 use Prim.Native.Nat.{ℕ}
 use Rattle.stream.specs.declared.State.{State}
 use Rattle.stream.specs.declared.Taken.{Taken}
-use Rattle.stream.specs.Steps.{takes}
+use Rattle.stream.specs.Steps.{takes, ownersAfter}
 use Rattle.stream.specs.Meaning.{meaning}
 
 -- once a stream has stopped nothing more is printed, whatever comes
 abbrev pub StoppedSilent : Type 0
 StoppedSilent = (s : State) (owners piece bytes : List ℕ) → s .stopped ≡ true → meaning s owners piece bytes ≡ []
 
--- two replies that meet the contract of a line taken are equal
+-- two replies that meet the contract of a line taken are equal, and so are the owners they leave
 abbrev pub TakenFixed : Type 0
-TakenFixed = (s : State) (owners line : List ℕ) (x y : Taken) → x ≡ takes s owners line → y ≡ takes s owners line → x ≡ y
+TakenFixed =
+    (s : State) (owners line : List ℕ) (x y : Taken) (t u : List ℕ) → x ≡ takes s owners line → y ≡ takes s owners line →
+    t ≡ ownersAfter s owners line → u ≡ ownersAfter s owners line → (x ≡ y) × (t ≡ u)
