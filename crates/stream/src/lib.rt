@@ -54,7 +54,7 @@ pub fn start() -> State
 }
 
 // The number of the line that comes next, counted from 1. A word holds no more than the last one.
-fn next_number(lines: u64) -> u64
+pub fn next_number(lines: u64) -> u64
     ensures { λ r. ⌜ r ≡ steps.nextNumber lines ⌝ }
 {
     if lines < 18_446_744_073_709_551_615 {

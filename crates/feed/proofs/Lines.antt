@@ -1,0 +1,137 @@
+-- Laws of the next whole line: its end found byte by byte, and the meaning with the line taken.
+-- Assumes nothing.
+use mathlib.Core.Path.{_≡_, refl, sym, ap, _∙_}
+use mathlib.Core.Bool.{true, false, and-false}
+use mathlib.Core.List.{List, [], _∷_, _++_, append-nil, append-assoc}
+use Prim.Native.Nat.{ℕ, suc, _+_, _-_, _≤_, _<_}
+use native.Mathlib.Nat.{not-suc-le-zero, le-of-suc-le-suc}
+use native.Mathlib.Numerals.{add-one}
+use native.Mathlib.Omega.{arith, by-contra}
+use borrow.Author.Tests.{lt-ltb, le-ltb, eq-eqb, ne-eqb, ltb-true}
+use lib.Dec.{eqb}
+use lib.ListN.{length, take, drop, length-append, length-drop, drop-of-length-le}
+use lib.Seq.{drop-cons, drop-drop}
+use Rattle.base.specs.Tables.{at}
+use Rattle.base.proofs.Tests.{by-test}
+use Rattle.lines.specs.declared.Read.the-variants.{Malformed}
+use Rattle.lines.proofs.Promised.{long-malformed}
+use Rattle.stream.specs.declared.State.{State}
+use Rattle.stream.specs.declared.Said.the-variants.{Wrong}
+use Rattle.stream.specs.Steps.{nextNumber, halted, takes, ownersAfter}
+use Rattle.stream.specs.Text.{textOf}
+use Rattle.stream.specs.Meaning.{mayBegin, atEnd, meaning}
+use Rattle.stream.proofs.Turns.{turn-says}
+use Rattle.stream.proofs.Meanings.{stopped-silent}
+use Rattle.feed.specs.Feed.{beforeTen, hasLine, lineAt, nothing, fed, ownersFed}
+use Rattle.feed.specs.Laws.{NextGoes, NothingLeft, LongPiece, EndPrints}
+
+-- the end of a line ------------------------------------------------------------------------
+
+pub ten-here : (bytes : List ℕ) (i : ℕ) → i < length bytes → at bytes i ≡ 10 → beforeTen (drop i bytes) ≡ 0
+unfolding beforeTen
+ten-here bytes i l e = ap beforeTen (drop-cons bytes i 0 l) ∙ rw (eq-eqb _ _ e)
+
+pub ten-later : (bytes : List ℕ) (i : ℕ) → i < length bytes → (at bytes i ≡ 10 → ⊥) → beforeTen (drop i bytes) ≡ beforeTen (drop (i + 1) bytes) + 1
+unfolding beforeTen
+ten-later bytes i l n = ap beforeTen (drop-cons bytes i 0 l) ∙ rw (ne-eqb _ _ n, add-one i, add-one (beforeTen (drop (suc i) bytes)))
+
+pub ten-none : (bytes : List ℕ) (i : ℕ) → length bytes ≤ i → beforeTen (drop i bytes) ≡ 0
+unfolding beforeTen
+ten-none bytes i l = rw (drop-of-length-le bytes l)
+
+pub ten-within : (bytes : List ℕ) → beforeTen bytes ≤ length bytes
+unfolding beforeTen
+ten-within [] = omega arith
+ten-within (byte ∷ bytes) = by-test (eqb byte 10) (λ t. rw t (omega arith)) (λ f. rw f (let tail = ten-within bytes in omega arith))
+
+-- a whole line, or none --------------------------------------------------------------------
+
+pub none-past : (input : List ℕ) (from : ℕ) → length input ≤ from → hasLine input from ≡ false
+none-past input from l = let none = length-drop from input in le-ltb (beforeTen (drop from input)) (length (drop from input)) (omega arith)
+
+pub none-unfinished : (input : List ℕ) (from : ℕ) → from + beforeTen (drop from input) ≡ length input → hasLine input from ≡ false
+none-unfinished input from e = let size = length-drop from input in le-ltb (beforeTen (drop from input)) (length (drop from input)) (omega arith)
+
+pub line-there : (input : List ℕ) (from : ℕ) → from < length input → (from + beforeTen (drop from input) ≡ length input → ⊥) → hasLine input from ≡ true
+line-there input from l n =
+    let size = length-drop from input in
+    let most = ten-within (drop from input) in
+    lt-ltb (beforeTen (drop from input)) (length (drop from input)) (by-contra (suc (beforeTen (drop from input))) (length (drop from input)) (λ w. n (omega arith)))
+
+-- the line as the code cuts it
+pub line-cut : (input : List ℕ) (from end : ℕ) → end ≡ from + beforeTen (drop from input) → take (end - from) (drop from input) ≡ lineAt input from
+line-cut input from end e = let size : end - from ≡ beforeTen (drop from input) = omega arith in ap (λ n. take n (drop from input)) size
+
+pub fed-none : (s : State) (owners input : List ℕ) (from : ℕ) → hasLine input from ≡ false → fed s owners input from ≡ nothing s from
+unfolding fed
+fed-none s owners input from f = rw f
+
+pub owners-none : (s : State) (owners input : List ℕ) (from : ℕ) → hasLine input from ≡ false → ownersFed s owners input from ≡ owners
+unfolding ownersFed
+owners-none s owners input from f = rw f
+
+pub fed-line : (s : State) (owners input : List ℕ) (from : ℕ) → hasLine input from ≡ true →
+    fed s owners input from ≡ record { state = takes s owners (lineAt input from) .state; said = takes s owners (lineAt input from) .said; next = from + beforeTen (drop from input) + 1 }
+unfolding fed
+fed-line s owners input from t = rw t
+
+pub owners-line : (s : State) (owners input : List ℕ) (from : ℕ) → hasLine input from ≡ true → ownersFed s owners input from ≡ ownersAfter s owners (lineAt input from)
+unfolding ownersFed
+owners-line s owners input from t = rw t
+
+-- the meaning ------------------------------------------------------------------------------
+
+-- with a piece already read, a whole line is taken with that piece before it
+line-taken : (s : State) (owners piece bytes rest : List ℕ) → beforeTen bytes < length bytes →
+    meaning s owners piece (bytes ++ rest)
+    ≡ textOf (takes s owners (piece ++ take (beforeTen bytes) bytes) .said)
+    ++ meaning (takes s owners (piece ++ take (beforeTen bytes) bytes) .state) (ownersAfter s owners (piece ++ take (beforeTen bytes) bytes)) [] (drop (suc (beforeTen bytes)) bytes ++ rest)
+unfolding beforeTen meaning
+line-taken s owners piece [] rest l = absurd (not-suc-le-zero l)
+line-taken s owners piece (byte ∷ bytes) rest l =
+    by-test (eqb byte 10)
+    (λ t. rw (t, append-nil piece))
+    (λ f. rw f (rw (append-assoc piece (byte ∷ []) (take (beforeTen bytes) bytes)) at (line-taken s owners (piece ++ byte ∷ []) bytes rest (le-of-suc-le-suc (rw f at l)))))
+
+pub next-goes : NextGoes
+unfolding fed ownersFed
+next-goes s owners input from rest =
+    let k = beforeTen (drop from input) in
+    let line = lineAt input from in
+    let place : from + suc k ≡ from + k + 1 = omega arith in
+    by-test (hasLine input from)
+    (λ t. rw t (line-taken s owners [] (drop from input) rest (ltb-true _ _ t)
+    ∙ ap (λ d. textOf (takes s owners line .said) ++ meaning (takes s owners line .state) (ownersAfter s owners line) [] (d ++ rest)) (drop-drop (suc k) from input ∙ ap (λ n. drop n input) place)))
+    (λ f. rw f)
+
+pub nothing-left : NothingLeft
+unfolding fed
+nothing-left s owners input from t = rw t (omega arith)
+
+-- a piece without byte 10 waits for what comes
+piece-waits : (s : State) (owners piece bytes rest : List ℕ) → beforeTen bytes ≡ length bytes → meaning s owners piece (bytes ++ rest) ≡ meaning s owners (piece ++ bytes) rest
+unfolding beforeTen meaning
+piece-waits s owners piece [] rest e = rw (append-nil piece)
+piece-waits s owners piece (byte ∷ bytes) rest e =
+    by-test (eqb byte 10)
+    (λ t. absurd (let z = rw t at e in omega arith))
+    (λ f. rw f (rw (append-assoc piece (byte ∷ []) bytes) at (piece-waits s owners (piece ++ byte ∷ []) bytes rest (let z = rw f at e in omega arith))))
+
+pub end-prints : EndPrints
+unfolding meaning
+end-prints s owners piece e = ap (meaning s owners []) (sym (append-nil piece)) ∙ piece-waits s owners [] piece [] e
+
+-- a long piece is malformed whether byte 10 comes or the end
+long-takes : (s : State) (owners piece : List ℕ) → s .stopped ≡ false → 8192 < length piece → takes s owners piece ≡ record { state = halted s; said = Wrong (nextNumber (s .lines)) }
+long-takes s owners piece on l = turn-says s owners piece (Malformed (nextNumber (s .lines))) on (long-malformed (s .due) (nextNumber (s .lines)) piece l)
+
+long-waits : (s : State) (owners piece rest : List ℕ) → s .stopped ≡ false → 8192 < length piece → meaning s owners piece rest ≡ textOf (Wrong (nextNumber (s .lines)))
+unfolding meaning atEnd
+long-waits s owners piece [] on l = rw (on, ne-eqb (length piece) 0 (λ e. absurd (omega arith)), and-false (mayBegin (s .due)))
+long-waits s owners piece (byte ∷ rest) on l =
+    by-test (eqb byte 10)
+    (λ t. rw (t, long-takes s owners piece on l, stopped-silent (halted s) (ownersAfter s owners piece) [] rest refl) (append-nil _))
+    (λ f. rw f (long-waits s owners (piece ++ byte ∷ []) rest on (omega (arith, length-append piece (byte ∷ [])))))
+
+pub long-piece : LongPiece
+long-piece s owners piece rest on none l = piece-waits s owners [] piece rest none ∙ long-waits s owners piece rest on l

@@ -1,0 +1,42 @@
+-- The next whole line of a buffer: where it ends, and what taking it leaves.
+-- Assumes nothing.
+use mathlib.Core.Bool.{Bool, cond}
+use mathlib.Core.List.{List, [], _∷_}
+use Prim.Native.Nat.{ℕ, suc, _+_}
+use lib.Dec.{eqb, ltb}
+use lib.ListN.{length, take, drop}
+use Rattle.stream.specs.declared.State.{State}
+use Rattle.stream.specs.declared.Said.the-variants.{Nothing}
+use Rattle.stream.specs.Steps.{takes, ownersAfter}
+use Rattle.feed.specs.declared.Fed.{Fed}
+
+-- how many bytes stand before the first byte 10, all where there is none
+unfoldable pub beforeTen : List ℕ → ℕ
+beforeTen [] = 0
+beforeTen (byte ∷ bytes) = cond (eqb byte 10) 0 (suc (beforeTen bytes))
+
+-- the bytes from a place on begin with a whole line
+abbrev pub hasLine : List ℕ → ℕ → Bool
+hasLine input from = ltb (beforeTen (drop from input)) (length (drop from input))
+
+-- that line, without its byte 10
+abbrev pub lineAt : List ℕ → ℕ → List ℕ
+lineAt input from = take (beforeTen (drop from input)) (drop from input)
+
+-- nothing taken
+abbrev pub nothing : State → ℕ → Fed
+nothing s from = record { state = s; said = Nothing; next = from }
+
+-- the next whole line taken; nothing where no whole line is left
+unfoldable pub fed : State → List ℕ → List ℕ → ℕ → Fed
+fed s owners input from =
+    cond (hasLine input from)
+    record {
+      state = takes s owners (lineAt input from) .state;
+      said = takes s owners (lineAt input from) .said;
+      next = from + beforeTen (drop from input) + 1;
+    }
+    (nothing s from)
+
+unfoldable pub ownersFed : State → List ℕ → List ℕ → ℕ → List ℕ
+ownersFed s owners input from = cond (hasLine input from) (ownersAfter s owners (lineAt input from)) owners

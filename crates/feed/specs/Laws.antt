@@ -1,0 +1,34 @@
+-- What feeding a stream promises, as statements; the function `promises` holds them all.
+-- Assumes nothing.
+use mathlib.Core.Path.{_≡_}
+use mathlib.Core.Bool.{true, false}
+use mathlib.Core.List.{List, [], _++_}
+use Prim.Native.Nat.{ℕ, _<_}
+use lib.ListN.{length, drop}
+use Rattle.stream.specs.declared.State.{State}
+use Rattle.stream.specs.declared.Said.the-variants.{Wrong}
+use Rattle.stream.specs.Steps.{nextNumber}
+use Rattle.stream.specs.Text.{textOf}
+use Rattle.stream.specs.Meaning.{atEnd, meaning}
+use Rattle.feed.specs.Feed.{beforeTen, hasLine, fed, ownersFed}
+
+-- whatever comes behind the buffer, the meaning is what the next line prints and then the meaning from the state after it
+abbrev pub NextGoes : Type 0
+NextGoes =
+    (s : State) (owners input : List ℕ) (from : ℕ) (rest : List ℕ) →
+    meaning s owners [] (drop from input ++ rest)
+    ≡ textOf (fed s owners input from .said) ++ meaning (fed s owners input from .state) (ownersFed s owners input from) [] (drop (fed s owners input from .next) input ++ rest)
+
+-- a whole line is taken wherever there is one: nothing is left over but a piece without byte 10
+abbrev pub NothingLeft : Type 0
+NothingLeft = (s : State) (owners input : List ℕ) (from : ℕ) → hasLine input from ≡ true → from < fed s owners input from .next
+
+-- an unfinished line above 8,192 bytes is malformed at once, whatever comes behind it
+abbrev pub LongPiece : Type 0
+LongPiece =
+    (s : State) (owners piece rest : List ℕ) → s .stopped ≡ false → beforeTen piece ≡ length piece → 8192 < length piece →
+    meaning s owners [] (piece ++ rest) ≡ textOf (Wrong (nextNumber (s .lines)))
+
+-- at the end of the input the piece left over decides
+abbrev pub EndPrints : Type 0
+EndPrints = (s : State) (owners piece : List ℕ) → beforeTen piece ≡ length piece → meaning s owners [] piece ≡ textOf (atEnd s piece)

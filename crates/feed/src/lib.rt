@@ -1,0 +1,113 @@
+// Feeding a stream from a buffer: the next whole line of it taken, what its end means, both against the meaning of the whole input.
+use lines::Due;
+use stream::Said;
+use stream::State;
+ghost use mathlib.Core.Path.{_≡_};
+ghost use Prim.Native.Nat.{_≤_, _+_};
+ghost use lib.ListN.{length, drop};
+ghost use Rattle.stream.specs.Steps.{nextNumber};
+ghost use Rattle.stream.specs.Meaning.{mayBegin, atEnd};
+ghost use Rattle.feed.specs.Feed as feed;
+ghost use Rattle.feed.specs.Laws.{NextGoes, NothingLeft, LongPiece, EndPrints};
+
+// What the next whole line leaves: the state, what is printed, and the place behind it; the same place where no whole line is left.
+pub struct Fed {
+    pub state: State,
+    pub said: Said,
+    pub next: usize,
+}
+
+// Where the line that begins at a place ends: at its byte 10, or behind the last byte.
+fn line_end(input: &[u8], from: usize) -> usize
+    requires { ⌜ from ≤ length (now input) ⌝ }
+    ensures { λ r. ⌜ r ≡ from + feed.beforeTen (drop from (now (input .entry))) ⌝ }
+{
+    let mut i = from;
+    while i < input.len() {
+        if input[i] == 10 {
+            return i;
+        }
+        i += 1;
+    }
+    i
+}
+
+// Nothing taken.
+fn none_taken(state: State, from: usize) -> Fed
+    ensures { λ r. ⌜ r ≡ feed.nothing state from ⌝ }
+{
+    Fed {
+        state,
+        said: Said::Nothing,
+        next: from,
+    }
+}
+
+// Takes the whole line that begins at a place of the input, where one does.
+pub fn next_line(state: State, owners: &mut [u16], input: &[u8], from: usize) -> Fed
+    ensures reply { λ r. ⌜ r ≡ feed.fed state (now (owners .entry)) (now (input .entry)) from ⌝ }
+    ensures table { λ r. ⌜ now (owners .exit) ≡ feed.ownersFed state (now (owners .entry)) (now (input .entry)) from ⌝ }
+{
+    if input.len() <= from {
+        return none_taken(state, from);
+    }
+    let end = line_end(input, from);
+    if end == input.len() {
+        return none_taken(state, from);
+    }
+    let taken = stream::take_line(state, owners, &input[from..end]);
+    let after = taken.state;
+    let said = taken.said;
+    Fed {
+        state: after,
+        said,
+        next: end + 1,
+    }
+}
+
+// Whether a record may begin.
+fn may_begin(due: Due) -> bool
+    ensures { λ r. ⌜ r ≡ mayBegin due ⌝ }
+{
+    match due {
+        Due::Slots => false,
+        Due::Opening => true,
+        Due::HostAdded => false,
+        Due::RateAdded { host: _ } => false,
+        Due::HostDropped => false,
+        Due::HostRerated => false,
+        Due::NewRate { host: _ } => false,
+        Due::Key => false,
+    }
+}
+
+// 13 with the number of the line that comes next.
+fn missing(state: State) -> Said
+    ensures { λ r. ⌜ r ≡ Said.Wrong (nextNumber (state .lines)) ⌝ }
+{
+    Said::Wrong {
+        line: stream::next_number(state.lines),
+    }
+}
+
+// What the end of the input prints, with a piece of a line left over.
+pub fn end_of_input(state: State, piece: &[u8]) -> Said
+    ensures { λ r. ⌜ r ≡ atEnd state (now (piece .entry)) ⌝ }
+{
+    if state.stopped {
+        return Said::Nothing;
+    }
+    let due = state.due;
+    if !may_begin(due) {
+        return missing(state);
+    }
+    if piece.len() != 0 {
+        return missing(state);
+    }
+    Said::Nothing
+}
+
+// The laws of feeding: without their proofs this function is not proved.
+pub fn promises()
+    ensures { λ _. ⌜ NextGoes × NothingLeft × LongPiece × EndPrints ⌝ }
+{}
