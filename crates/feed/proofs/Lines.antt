@@ -23,7 +23,7 @@ use Rattle.stream.specs.Meaning.{mayBegin, atEnd, meaning}
 use Rattle.stream.proofs.Turns.{turn-says}
 use Rattle.stream.proofs.Meanings.{stopped-silent}
 use Rattle.feed.specs.Feed.{beforeTen, hasLine, lineAt, nothing, fed, ownersFed}
-use Rattle.feed.specs.Laws.{NextGoes, NothingLeft, LongPiece, EndPrints}
+use Rattle.feed.specs.Laws.{NextGoes, NothingLeft, LongPiece, EndPrints, FedFixed, EndFixed}
 
 -- the end of a line ------------------------------------------------------------------------
 
@@ -135,3 +135,11 @@ long-waits s owners piece (byte ∷ rest) on l =
 
 pub long-piece : LongPiece
 long-piece s owners piece rest on none l = piece-waits s owners [] piece rest none ∙ long-waits s owners piece rest on l
+
+-- one reply ------------------------------------------------------------------------
+
+pub fed-fixed : FedFixed
+fed-fixed s owners input from x y t u p q v w = (p ∙ sym q, v ∙ sym w)
+
+pub end-fixed : EndFixed
+end-fixed s piece x y p q = p ∙ sym q

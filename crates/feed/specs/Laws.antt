@@ -6,10 +6,12 @@ use mathlib.Core.List.{List, [], _++_}
 use Prim.Native.Nat.{ℕ, _<_}
 use lib.ListN.{length, drop}
 use Rattle.stream.specs.declared.State.{State}
+use Rattle.stream.specs.declared.Said.{Said}
 use Rattle.stream.specs.declared.Said.the-variants.{Wrong}
 use Rattle.stream.specs.Steps.{nextNumber}
 use Rattle.stream.specs.Text.{textOf}
 use Rattle.stream.specs.Meaning.{atEnd, meaning}
+use Rattle.feed.specs.declared.Fed.{Fed}
 use Rattle.feed.specs.Feed.{beforeTen, hasLine, fed, ownersFed}
 
 -- whatever comes behind the buffer, the meaning is what the next line prints and then the meaning from the state after it
@@ -32,3 +34,12 @@ LongPiece =
 -- at the end of the input the piece left over decides
 abbrev pub EndPrints : Type 0
 EndPrints = (s : State) (owners piece : List ℕ) → beforeTen piece ≡ length piece → meaning s owners [] piece ≡ textOf (atEnd s piece)
+
+-- two replies that meet a contract are equal, and so are the owners they leave
+abbrev pub FedFixed : Type 0
+FedFixed =
+    (s : State) (owners input : List ℕ) (from : ℕ) (x y : Fed) (t u : List ℕ) → x ≡ fed s owners input from → y ≡ fed s owners input from →
+    t ≡ ownersFed s owners input from → u ≡ ownersFed s owners input from → (x ≡ y) × (t ≡ u)
+
+abbrev pub EndFixed : Type 0
+EndFixed = (s : State) (piece : List ℕ) (x y : Said) → x ≡ atEnd s piece → y ≡ atEnd s piece → x ≡ y

@@ -8,7 +8,7 @@ ghost use lib.ListN.{length, drop};
 ghost use Rattle.stream.specs.Steps.{nextNumber};
 ghost use Rattle.stream.specs.Meaning.{mayBegin, atEnd};
 ghost use Rattle.feed.specs.Feed as feed;
-ghost use Rattle.feed.specs.Laws.{NextGoes, NothingLeft, LongPiece, EndPrints};
+ghost use Rattle.feed.specs.Laws.{NextGoes, NothingLeft, LongPiece, EndPrints, FedFixed, EndFixed};
 
 // What the next whole line leaves: the state, what is printed, and the place behind it; the same place where no whole line is left.
 pub struct Fed {
@@ -109,5 +109,6 @@ pub fn end_of_input(state: State, piece: &[u8]) -> Said
 
 // The laws of feeding: without their proofs this function is not proved.
 pub fn promises()
-    ensures { λ _. ⌜ NextGoes × NothingLeft × LongPiece × EndPrints ⌝ }
+    ensures laws { λ _. ⌜ NextGoes × NothingLeft × LongPiece × EndPrints ⌝ }
+    ensures fixed { λ _. ⌜ FedFixed × EndFixed ⌝ }
 {}
