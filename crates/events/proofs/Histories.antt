@@ -5,10 +5,10 @@ use mathlib.Core.Bool.{true, false, not, _&&_}
 use mathlib.Core.Logic.{_⊎_, inl, inr, ⊎-elim}
 use mathlib.Core.List.{List}
 use Prim.Native.Nat.{ℕ, _+_, _-_, _*_, _≤_, _<_}
-use native.Mathlib.Nat.{eq-zero-or-pos}
+use native.Mathlib.Nat.{eq-zero-or-pos, zero-add}
 use native.Mathlib.Omega.{arith}
 use lib.Dec.{leb}
-use lib.IntN.{pos, _-ℤ_}
+use lib.IntN.{pos, _-ℤ_, +ℤ-negℤ-cancel}
 use lib.ListN.{length, set, replicate, length-replicate, getD-replicate}
 use lib.Seq.{getD-take}
 use borrow.Author.Tests.{eq-eqb, ne-eqb, eqb-true, leb-true}
@@ -40,10 +40,10 @@ use Rattle.table.proofs.Replies.{no-change}
 use Rattle.events.specs.declared.Event.{Event}
 use Rattle.events.specs.declared.Event.the-variants.{Add, Drop, Rate}
 use Rattle.events.specs.Events.{named, changed, changeRows, eventRows, badHost, answerOf, rosterAfter, tableAfter}
-use Rattle.events.specs.Forecasts.{hostQuota}
+use Rattle.events.specs.Forecasts.{hostQuota, forecastAnswer}
 use Rattle.events.specs.Demand3.{Reached, begin, next, slotsAt, StaysRight, SlotsSum, NoSmallerRatio, WithinBound, OnlyTheNamed, CountIsTrue, NoFewer, RefusedKeeps, rateAgain, SameRateStays, ForecastIsTrue, RowsRise, ReplyFixed, ForecastFixed}
 use Rattle.events.proofs.OneHost.{only-added, only-dropped, only-rerated, add-allowed, drop-allowed, rate-allowed}
-use Rattle.events.proofs.Outcomes.{changed-sized, accepted, accepted-check, accepted-event, named-fits, row-passed, kept-roster, kept-table, none-moved, new-roster, new-table, new-moved, passed-forecast, forecast-made}
+use Rattle.events.proofs.Outcomes.{changed-sized, stopped-by-event, accepted, accepted-check, accepted-event, named-fits, row-passed, kept-roster, kept-table, none-moved, new-roster, new-table, new-moved, forecast-refused, forecast-made}
 
 -- every reached state is right ------------------------------------------------------------
 
@@ -180,21 +180,32 @@ same-rate-stays S fits r slots h j l =
 
 -- forecasts --------------------------------------------------------------------------------------
 
+-- in a right state only the event's own rows decide, of its forecast as of the event
+same-answer : {S : ℕ} {r : Roster} {slots : List ℕ} → Right S r slots → (e : Event) (asked : ℕ) → hostFits asked ≡ true → forecastAnswer r S e asked ≡ answerOf r S e slots
+unfolding forecastAnswer lowest
+same-answer {S} {r} {slots} w e asked good =
+    by-test (hostFits (named e))
+    (λ t. rw (w .sized .count-fits, w .sized .valid-roster, good, t) refl)
+    (λ f. rw (w .sized .count-fits, w .sized .valid-roster, f) refl)
+    ∙ by-answer (lowest (eventRows r e))
+    (λ z. z ∙ sym (accepted r S e slots (checks-out w) z))
+    (λ ne. sym (stopped-by-event r S e slots (checks-out w) (lowest (eventRows r e)) refl ne))
+
+none-gained : (n : ℕ) → pos n -ℤ pos n ≡ pos 0
+none-gained n = rw (zero-add n) at (+ℤ-negℤ-cancel (pos 0) (pos n))
+
 pub forecast-is-true : ForecastIsTrue
-forecast-is-true S fits r slots h e z asked good =
+forecast-is-true S fits r slots h e asked good =
     let w = reached-right fits h in
-    let after = next-right e w in
-    let rows = accepted-event r S e slots z in
-    let answer = passed-forecast r S e asked (record {
-      count-fits = fits;
-      valid-roster = w .sized .valid-roster;
-      named-well = named-fits r e rows;
-      asked-well = good;
-      change-well = row-passed 4 (badHost e) (changeRows r e) (omega arith) rows .1;
-    }) in
-    let some : 0 < asked = leb-true 1 asked (and-left (leb 1 asked) _ good) in
-    let there : held (tableAfter r S e slots) asked ≡ hostQuota (changed r e) S asked = held-quota after asked some ∙ ap (λ s. hostQuota s S asked) (new-roster r S e slots z) in
-    (answer, forecast-made r S e asked answer ∙ ap₂ (λ a b. pos a -ℤ pos b) (sym there) (sym (held-quota w asked some)))
+    let same = same-answer w e asked good in
+    let some : 0 < asked = leb-true 1 asked (and-left (leb 1 asked) _ good) in (
+      same,
+      by-answer (answerOf r S e slots)
+          (λ z. let there : held (tableAfter r S e slots) asked ≡ hostQuota (changed r e) S asked = held-quota (next-right e w) asked some ∙ ap (λ s. hostQuota s S asked) (new-roster r S e slots z) in
+          forecast-made r S e asked (same ∙ z) ∙ ap₂ (λ a b. pos a -ℤ pos b) (sym there) (sym (held-quota w asked some)))
+          (λ ne. ap (λ f. f .change) (forecast-refused r S e asked (answerOf r S e slots) (sym same) ne)
+          ∙ sym (ap (λ t. pos (held t asked) -ℤ pos (held slots asked)) (kept-table r S e slots ne) ∙ none-gained (held slots asked))),
+    )
 
 -- one reply ---------------------------------------------------------------------------------------
 

@@ -168,10 +168,6 @@ module _ (r : Roster) (S : ℕ) (e : Event) (asked : ℕ) where
         change-well = four .1;
       }
 
-  pub passed-forecast : Passed r S e asked → forecastAnswer r S e asked ≡ 0
-  unfolding forecastAnswer lowest
-  passed-forecast p = rw (p .count-fits, p .valid-roster, p .named-well, p .asked-well) (p .change-well)
-
   abbrev foretells : ℕ → ℤ → Foreseen
   foretells a d = record { answer = a; change = d }
 

@@ -88,11 +88,11 @@ SameRateStays =
     (answerOf r S (rateAgain r j) slots ≡ 0) × (rosterAfter r S (rateAgain r j) slots ≡ r)
     × (tableAfter r S (rateAgain r j) slots ≡ slots) × (movedBy r S (rateAgain r j) slots ≡ 0))
 
--- the forecast of a host is its slots after the event less its slots before
+-- a forecast answers as the event does, and its change is the host's slots after the event less its slots before; a refused event leaves them
 abbrev pub ForecastIsTrue : Type 0
 ForecastIsTrue =
-    Always (λ S r slots. (e : Event) → answerOf r S e slots ≡ 0 → (asked : ℕ) → hostFits asked ≡ true →
-    (forecastAnswer r S e asked ≡ 0) × (changeOf r S e asked ≡ pos (held (tableAfter r S e slots) asked) -ℤ pos (held slots asked)))
+    Always (λ S r slots. (e : Event) (asked : ℕ) → hostFits asked ≡ true →
+    (forecastAnswer r S e asked ≡ answerOf r S e slots) × (changeOf r S e asked ≡ pos (held (tableAfter r S e slots) asked) -ℤ pos (held slots asked)))
 
 -- the rows rise in number, so that each answer is the lowest row that holds (`LowestIsFirst` of base)
 abbrev pub RowsRise : Type 0
