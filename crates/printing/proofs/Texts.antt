@@ -1,4 +1,4 @@
--- Laws of printed text: one text behind another, and the library's digits as the definition's decimal.
+-- Laws of printed text: one text behind another, the library's digits as the definition's decimal, and what is put for what is said.
 -- Assumes nothing.
 use mathlib.Core.Path.{_≡_, refl, sym, ap, _∙_}
 use mathlib.Core.Bool.{true}
@@ -18,6 +18,7 @@ use Rattle.stream.specs.declared.Said.the-variants.{Nothing, Moved, Owner, Wron
 use Rattle.stream.proofs.Said as saids
 use Rattle.stream.specs.Text.{decimalWithin, decimal, printedLine, textOf}
 use Rattle.printing.specs.Wrote.{wrote, roomFor, saidAt, placeAfter}
+use Rattle.printing.specs.Laws.{SaidFixed}
 
 -- a text behind another ---------------------------------------------------------------------
 
@@ -160,3 +161,8 @@ said-place said is size place r f e h = rw (f, e) h
 
 pub said-bytes : (said is : Said) (out : List ℕ) (place : ℕ) (after : List ℕ) → roomFor (length out) place ≡ true → said ≡ is → after ≡ wrote out place (textOf is) → after ≡ saidAt said out place
 said-bytes said is out place after f e h = rw (f, e) h
+
+-- one place and one output ----------------------------------------------------------------------
+
+pub said-fixed : SaidFixed
+said-fixed said out place x y t u p q v w = (p ∙ sym q, v ∙ sym w)

@@ -5,6 +5,7 @@ ghost use Prim.Native.Nat.{_+_, _≤_};
 ghost use lib.ListN.{length};
 ghost use Rattle.stream.specs.Text.{decimal, printedLine, textOf};
 ghost use Rattle.printing.specs.Wrote.{wrote, roomFor, placeAfter, saidAt};
+ghost use Rattle.printing.specs.Laws.{SaidFixed};
 
 // Puts a text into the output at a place, and answers the place behind it.
 fn put(out: &mut [u8], at: usize, text: &[u8]) -> usize
@@ -98,3 +99,8 @@ pub fn put_said(said: Said, out: &mut [u8], at: usize) -> usize
         Said::Wrong { line } => put_wrong(out, at, line),
     }
 }
+
+// The law of printing: without its proof this function is not proved.
+pub fn promises()
+    ensures { λ _. ⌜ SaidFixed ⌝ }
+{}
