@@ -1,4 +1,4 @@
--- Laws of the line reader: the key, what 13 carries, long lines, and comments inside a record.
+-- Laws of the line reader: what a number answers, the key, what 13 carries, long lines, and comments inside a record.
 -- Assumes nothing.
 use mathlib.Core.Path.{_≡_, refl, sym, ap, _∙_}
 use mathlib.Core.Bool.{Bool, true, false, cond}
@@ -17,8 +17,15 @@ use Rattle.events.specs.declared.Event.the-variants.{Add, Drop, Rate}
 use Rattle.lines.specs.declared.Record.the-variants.{Change, Find, Comment}
 use Rattle.lines.specs.declared.Read.{Read}
 use Rattle.lines.specs.declared.Read.the-variants.{Count, Part, Whole, Malformed}
+use Rattle.lines.specs.Numbers.{isNumber, numberOf}
 use Rattle.lines.specs.Lines.{slotsName, hostName, rateName, keyName, commentSign, opAdd, opDrop, opRate, opFind, startsWith, isLine, fieldOf, keyOf, afterEquals, brings, withNumber, opens, keyed, readDue, readLine, answerOf, lineOf, recordsOf}
-use Rattle.lines.specs.Laws.{KeyAfterEquals, MalformedCarries, LongMalformed, CommentInside, NumberFixed, KeyFixed, ReadFixed}
+use Rattle.lines.specs.Laws.{NumberSays, KeyAfterEquals, MalformedCarries, LongMalformed, CommentInside, NumberFixed, KeyFixed, ReadFixed}
+
+-- numbers -----------------------------------------------------------------------------
+
+pub number-says : NumberSays
+unfolding numberOf
+number-says text = by-test (isNumber text) (λ t. rw t (refl, refl)) (λ f. rw f (refl, refl))
 
 -- the key --------------------------------------------------------------------------------
 

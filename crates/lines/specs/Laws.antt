@@ -1,7 +1,7 @@
 -- What the line reader promises, as statements; the function `promises` holds them all.
 -- Assumes nothing.
 use mathlib.Core.Path.{_≡_}
-use mathlib.Core.Bool.{true}
+use mathlib.Core.Bool.{true, cond}
 use mathlib.Core.Logic.{_≢_}
 use mathlib.Core.List.{List, []}
 use Prim.Native.Nat.{ℕ, _<_}
@@ -11,8 +11,13 @@ use Rattle.lines.specs.declared.Due.{Due}
 use Rattle.lines.specs.declared.Due.the-variants.{Opening}
 use Rattle.lines.specs.declared.Read.{Read}
 use Rattle.lines.specs.declared.Read.the-variants.{Malformed}
-use Rattle.lines.specs.Numbers.{numberOf}
+use Rattle.lines.specs.Numbers.{isNumber, valueFrom, numberOf, answerOf as numberAnswer, valueOf}
 use Rattle.lines.specs.Lines.{keyName, commentSign, startsWith, keyOf, afterEquals, readLine, answerOf, lineOf, recordsOf}
+
+-- a text that is a number answers 0 with what its digits say, any other 13 with nothing
+abbrev pub NumberSays : Type 0
+NumberSays =
+    (text : List ℕ) → (numberAnswer (numberOf text) ≡ cond (isNumber text) 0 13) × (valueOf (numberOf text) ≡ cond (isNumber text) (valueFrom 0 text) 0)
 
 -- the key of a find is the part of the line after its first equals sign
 abbrev pub KeyAfterEquals : Type 0

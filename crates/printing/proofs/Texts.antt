@@ -3,8 +3,8 @@
 use mathlib.Core.Path.{_≡_, refl, sym, ap, _∙_}
 use mathlib.Core.Bool.{true}
 use mathlib.Core.List.{List, [], _∷_, _++_, append-nil, append-assoc}
-use Prim.Native.Nat.{ℕ, zero, suc, _+_, _-_, _*_, _/_, _%_, _^_, _≤_, _<_}
-use native.Mathlib.Nat.{pow-suc, pow-le-pow-right, mod-eq-of-lt, div-lt-iff-lt-mul, le-div-iff-mul-le, one-le-pow, mod-lt}
+use Prim.Native.Nat.{ℕ, zero, suc, _+_, _-_, _/_, _%_, _^_, _≤_, _<_}
+use native.Mathlib.Nat.{pow-suc, pow-le-pow-right, mod-eq-of-lt, le-div-iff-mul-le, one-le-pow, mod-lt}
 use native.Mathlib.Omega.{arith, by-contra}
 use borrow.Author.Tests.{lt-ltb, ltb-true, leb-true, le-leb}
 use lib.Dec.{ltb, leb}
@@ -17,6 +17,7 @@ use Rattle.stream.specs.declared.Said.{Said}
 use Rattle.stream.specs.declared.Said.the-variants.{Nothing, Moved, Owner, Wrong}
 use Rattle.stream.proofs.Said as saids
 use Rattle.stream.specs.Text.{decimalWithin, decimal, printedLine, textOf}
+use Rattle.stream.proofs.Texts.{length-decimal, tenth-below}
 use Rattle.printing.specs.Wrote.{wrote, roomFor, saidAt, placeAfter}
 use Rattle.printing.specs.Laws.{SaidFixed}
 
@@ -60,11 +61,10 @@ two-digits n k l f =
 -- the digits but the last are those of a tenth
 tenth : (n k : ℕ) → Fewest 10 1 n (suc (suc k)) → Fewest 10 1 (n / 10) (suc k)
 tenth n k f =
-    let below : n < 10 ^ suc k * 10 = rw (sym (pow-suc 10 (suc k))) (f .1) in
     let place : suc (suc k) - 1 ≡ suc k = omega arith in
     let above : 10 ^ suc k ≤ n = rw place at (f .2 (omega arith)) in
     let last : suc k - 1 ≡ k = omega arith in
-    (omega arith, div-lt-iff-lt-mul {k = 10} {x = n} (omega arith) .1 below, λ more. rw last (le-div-iff-mul-le {k = 10} {y = n} (omega arith) .1 (rw (pow-suc 10 k) at above)))
+    (omega arith, tenth-below k n (f .1), λ more. rw last (le-div-iff-mul-le {k = 10} {y = n} (omega arith) .1 (rw (pow-suc 10 k) at above)))
 
 digit-glyph : (n : ℕ) → glyph (n % 10) ≡ 48 + n % 10
 digit-glyph n = rw (lt-ltb (n % 10) 10 (mod-lt n (omega arith)))
@@ -80,14 +80,6 @@ decimal-digits (suc m) (suc k) n l f =
     by-test (ltb n 10)
     (λ t. two-digits n k (ltb-true _ _ t) f)
     (λ t. rw t (ap (λ x. x ++ glyph (n % 10) ∷ []) (decimal-digits m k (n / 10) (omega arith) (tenth n k f)) ∙ ap (λ x. decimalWithin m (n / 10) ++ x ∷ []) (digit-glyph n)))
-
-pub length-decimal : (m n : ℕ) → length (decimalWithin m n) ≤ m + 1
-unfolding decimalWithin
-length-decimal zero n = omega arith
-length-decimal (suc m) n =
-    by-test (ltb n 10)
-    (λ t. rw t (omega arith))
-    (λ f. rw f (let tail = length-decimal m (n / 10) in omega (arith, length-append (decimalWithin m (n / 10)) ((48 + n % 10) ∷ []))))
 
 -- a word's number has at most 20 digits
 fewest-twenty : (n k : ℕ) → n < 2 ^ 64 → Fewest 10 1 n k → k ≤ 20

@@ -1,4 +1,5 @@
 pub mod Parts
 pub mod Turns
 pub mod Samples
+pub mod Texts
 pub mod Meanings

@@ -2,12 +2,26 @@
 -- Assumes nothing.
 use mathlib.Core.Path.{_≡_}
 use mathlib.Core.Bool.{true}
-use mathlib.Core.List.{List, []}
-use Prim.Native.Nat.{ℕ}
+use mathlib.Core.Logic.{_≢_}
+use mathlib.Core.List.{List, [], _++_}
+use Prim.Native.Nat.{ℕ, _<_}
+use Rattle.lines.specs.declared.Number.the-variants.{Is}
+use Rattle.lines.specs.Numbers.{numberOf}
 use Rattle.stream.specs.declared.State.{State}
+use Rattle.stream.specs.declared.Said.{Said}
+use Rattle.stream.specs.declared.Said.the-variants.{Nothing}
 use Rattle.stream.specs.declared.Taken.{Taken}
 use Rattle.stream.specs.Steps.{takes, ownersAfter}
+use Rattle.stream.specs.Text.{decimal, answerName, printedLine, textOf, answerOf}
 use Rattle.stream.specs.Meaning.{meaning}
+
+-- whatever is printed begins with the line of its answer
+abbrev pub AnswerFirst : Type 0
+AnswerFirst = (said : Said) → said ≢ Nothing → (rest : List ℕ) × (textOf said ≡ printedLine answerName (answerOf said) ++ rest)
+
+-- a number of at most 9 digits, printed, is read back as itself
+abbrev pub DecimalReads : Type 0
+DecimalReads = (n : ℕ) → n < 1000000000 → numberOf (decimal n) ≡ Is n
 
 -- once a stream has stopped nothing more is printed, whatever comes
 abbrev pub StoppedSilent : Type 0

@@ -7,7 +7,8 @@ use mathlib.Core.Path.{ap, _∙_}
 use lib.ListN.{length}
 use Rattle.stream.specs.Text.{decimal}
 use Rattle.printing.specs.Wrote.{wrote}
-use Rattle.printing.proofs.Texts.{decimal-text, length-decimal}
+use Rattle.stream.proofs.Texts.{length-decimal}
+use Rattle.printing.proofs.Texts.{decimal-text}
 use Rattle.printing.proofs.put_decimal.Statement.{statement}
 use Rattle.printing.proofs.put_decimal.Tie as tie
 

@@ -2,7 +2,8 @@
 -- Assumes nothing.
 use borrow.Author.Needs.{needs}
 use native.Mathlib.Omega.{arith}
-use Rattle.printing.proofs.Texts.{length-decimal, line-wrote, line-place}
+use Rattle.stream.proofs.Texts.{length-decimal}
+use Rattle.printing.proofs.Texts.{line-wrote, line-place}
 use Rattle.printing.proofs.put_line.Statement.{statement}
 use Rattle.printing.proofs.put_line.Tie as tie
 
