@@ -1,18 +1,18 @@
 -- Laws of the next whole line: its end found byte by byte, and the meaning with the line taken.
 -- Assumes nothing.
 use mathlib.Core.Path.{_≡_, refl, sym, ap, _∙_}
-use mathlib.Core.Bool.{true, false, and-false}
+use mathlib.Core.Bool.{Bool, true, false, _||_, not, and-false, or-true, true≢false}
 use mathlib.Core.List.{List, [], _∷_, _++_, append-nil, append-assoc}
-use Prim.Native.Nat.{ℕ, suc, _+_, _-_, _≤_, _<_}
+use Prim.Native.Nat.{ℕ, suc, _+_, _-_, _≤_, _<_, min}
 use native.Mathlib.Nat.{not-suc-le-zero, le-of-suc-le-suc}
 use native.Mathlib.Numerals.{add-one}
 use native.Mathlib.Omega.{arith, by-contra}
-use borrow.Author.Tests.{lt-ltb, le-ltb, eq-eqb, ne-eqb, ltb-true}
-use lib.Dec.{eqb}
+use borrow.Author.Tests.{lt-ltb, le-ltb, eq-eqb, ne-eqb, ltb-true, ltb-false, leb-true, leb-false, not-true}
+use lib.Dec.{eqb, ltb, leb}
 use lib.ListN.{length, take, drop, length-append, length-drop, drop-of-length-le}
-use lib.Seq.{drop-cons, drop-drop}
+use lib.Seq.{drop-cons, drop-drop, take-length}
 use Rattle.base.specs.Tables.{at}
-use Rattle.base.proofs.Tests.{by-test}
+use Rattle.base.proofs.Tests.{by-test, never, and-left, and-right}
 use Rattle.lines.specs.declared.Read.the-variants.{Malformed}
 use Rattle.lines.proofs.Promised.{long-malformed}
 use Rattle.stream.specs.declared.State.{State}
@@ -21,9 +21,9 @@ use Rattle.stream.specs.Steps.{nextNumber, halted, takes, ownersAfter}
 use Rattle.stream.specs.Text.{textOf}
 use Rattle.stream.specs.Meaning.{mayBegin, atEnd, meaning}
 use Rattle.stream.proofs.Turns.{turn-says}
-use Rattle.stream.proofs.Meanings.{stopped-silent}
-use Rattle.feed.specs.Feed.{beforeTen, hasLine, lineAt, nothing, fed, ownersFed}
-use Rattle.feed.specs.Laws.{NextGoes, NothingLeft, LongPiece, EndPrints, FedFixed, EndFixed}
+use Rattle.stream.proofs.Meanings.{stopped-takes, stopped-silent}
+use Rattle.feed.specs.Feed.{beforeTen, hasLine, lineAt, waits, nothing, fed, ownersFed}
+use Rattle.feed.specs.Laws.{NextGoes, NothingLeft, PieceLeft, LongPiece, EndPrints, FedFixed, EndFixed}
 
 -- the end of a line ------------------------------------------------------------------------
 
@@ -44,19 +44,36 @@ unfolding beforeTen
 ten-within [] = omega arith
 ten-within (byte ∷ bytes) = by-test (eqb byte 10) (λ t. rw t (omega arith)) (λ f. rw f (let tail = ten-within bytes in omega arith))
 
--- a whole line, or none --------------------------------------------------------------------
+-- a line to take, or none ------------------------------------------------------------------
 
 pub none-past : (input : List ℕ) (from : ℕ) → length input ≤ from → hasLine input from ≡ false
-none-past input from l = let none = length-drop from input in le-ltb (beforeTen (drop from input)) (length (drop from input)) (omega arith)
+none-past input from l = let size = length-drop from input in rw (le-ltb (beforeTen (drop from input)) (length (drop from input)) (omega arith), le-ltb 8192 (length (drop from input)) (omega arith))
 
-pub none-unfinished : (input : List ℕ) (from : ℕ) → from + beforeTen (drop from input) ≡ length input → hasLine input from ≡ false
-none-unfinished input from e = let size = length-drop from input in le-ltb (beforeTen (drop from input)) (length (drop from input)) (omega arith)
-
-pub line-there : (input : List ℕ) (from : ℕ) → from < length input → (from + beforeTen (drop from input) ≡ length input → ⊥) → hasLine input from ≡ true
-line-there input from l n =
+pub none-waits : (input : List ℕ) (from end : ℕ) → from ≤ length input → end ≡ from + beforeTen (drop from input) → waits (length input) from end ≡ true → hasLine input from ≡ false
+none-waits input from end l e w =
     let size = length-drop from input in
-    let most = ten-within (drop from input) in
-    lt-ltb (beforeTen (drop from input)) (length (drop from input)) (by-contra (suc (beforeTen (drop from input))) (length (drop from input)) (λ w. n (omega arith)))
+    let late = ltb-false end (length input) (not-true (ltb end (length input)) (and-left (not (ltb end (length input))) (leb (length input - from) 8192) w)) in
+    let short = leb-true (length input - from) 8192 (and-right (not (ltb end (length input))) (leb (length input - from) 8192) w) in
+    rw (le-ltb (beforeTen (drop from input)) (length (drop from input)) (omega arith), le-ltb 8192 (length (drop from input)) (omega arith))
+
+pub line-there : (input : List ℕ) (from end : ℕ) → from ≤ length input → end ≡ from + beforeTen (drop from input) → waits (length input) from end ≡ false → hasLine input from ≡ true
+line-there input from end l e w =
+    let size = length-drop from input in
+    by-test (ltb end (length input))
+    (λ t. let early = ltb-true end (length input) t in rw (lt-ltb (beforeTen (drop from input)) (length (drop from input)) (omega arith)))
+    (λ f. let long = leb-false (length input - from) 8192 (rw f at w) in rw (lt-ltb 8192 (length (drop from input)) (omega arith)) (or-true (ltb (beforeTen (drop from input)) (length (drop from input)))))
+
+neither : (a b : Bool) → (a || b) ≡ false → (a ≡ false) × (b ≡ false)
+neither true b f = absurd (true≢false f)
+neither false b f = (refl, f)
+
+pub piece-left : PieceLeft
+piece-left input from f =
+    let bytes = drop from input in
+    let fails = neither (ltb (beforeTen bytes) (length bytes)) (ltb 8192 (length bytes)) f in
+    let none = ltb-false (beforeTen bytes) (length bytes) (fails .0) in
+    let most = ten-within bytes in
+    (omega arith, ltb-false 8192 (length bytes) (fails .1))
 
 -- the line as the code cuts it
 pub line-cut : (input : List ℕ) (from end : ℕ) → end ≡ from + beforeTen (drop from input) → take (end - from) (drop from input) ≡ lineAt input from
@@ -71,7 +88,7 @@ unfolding ownersFed
 owners-none s owners input from f = rw f
 
 pub fed-line : (s : State) (owners input : List ℕ) (from : ℕ) → hasLine input from ≡ true →
-    fed s owners input from ≡ record { state = takes s owners (lineAt input from) .state; said = takes s owners (lineAt input from) .said; next = from + beforeTen (drop from input) + 1 }
+    fed s owners input from ≡ record { state = takes s owners (lineAt input from) .state; said = takes s owners (lineAt input from) .said; next = min (from + beforeTen (drop from input) + 1) (length input) }
 unfolding fed
 fed-line s owners input from t = rw t
 
@@ -92,21 +109,6 @@ line-taken s owners piece (byte ∷ bytes) rest l =
     by-test (eqb byte 10)
     (λ t. rw (t, append-nil piece))
     (λ f. rw f (rw (append-assoc piece (byte ∷ []) (take (beforeTen bytes) bytes)) at (line-taken s owners (piece ++ byte ∷ []) bytes rest (le-of-suc-le-suc (rw f at l)))))
-
-pub next-goes : NextGoes
-unfolding fed ownersFed
-next-goes s owners input from rest =
-    let k = beforeTen (drop from input) in
-    let line = lineAt input from in
-    let place : from + suc k ≡ from + k + 1 = omega arith in
-    by-test (hasLine input from)
-    (λ t. rw t (line-taken s owners [] (drop from input) rest (ltb-true _ _ t)
-    ∙ ap (λ d. textOf (takes s owners line .said) ++ meaning (takes s owners line .state) (ownersAfter s owners line) [] (d ++ rest)) (drop-drop (suc k) from input ∙ ap (λ n. drop n input) place)))
-    (λ f. rw f)
-
-pub nothing-left : NothingLeft
-unfolding fed
-nothing-left s owners input from t = rw t (omega arith)
 
 -- a piece without byte 10 waits for what comes
 piece-waits : (s : State) (owners piece bytes rest : List ℕ) → beforeTen bytes ≡ length bytes → meaning s owners piece (bytes ++ rest) ≡ meaning s owners (piece ++ bytes) rest
@@ -135,6 +137,51 @@ long-waits s owners piece (byte ∷ rest) on l =
 
 pub long-piece : LongPiece
 long-piece s owners piece rest on none l = piece-waits s owners [] piece rest none ∙ long-waits s owners piece rest on l
+
+-- the next line ------------------------------------------------------------------------
+
+-- a place behind the end is the end
+drop-within : (n : ℕ) (l : List ℕ) → drop (min n (length l)) l ≡ drop n l
+drop-within n l =
+    by-test (ltb (length l) n)
+    (λ t. let past = ltb-true (length l) n t in let end : min n (length l) ≡ length l = omega arith in rw end (drop-of-length-le l {i = length l} (omega arith) ∙ sym (drop-of-length-le l {i = n} (omega arith))))
+    (λ f. let here = ltb-false (length l) n f in let same : min n (length l) ≡ n = omega arith in rw same)
+
+-- a line with which the stream stops, or behind which it has stopped, says all that is said
+last-says : (s : State) (owners line bytes : List ℕ) → takes s owners line .state .stopped ≡ true →
+    textOf (takes s owners line .said) ++ meaning (takes s owners line .state) (ownersAfter s owners line) [] bytes ≡ textOf (takes s owners line .said)
+last-says s owners line bytes e = rw (stopped-silent (takes s owners line .state) (ownersAfter s owners line) [] bytes e) (append-nil _)
+
+-- a line above 8,192 bytes is taken as if its byte 10 came next
+long-goes : (s : State) (owners piece rest bytes : List ℕ) → beforeTen piece ≡ length piece → 8192 < length piece →
+    meaning s owners [] (piece ++ rest) ≡ textOf (takes s owners piece .said) ++ meaning (takes s owners piece .state) (ownersAfter s owners piece) [] bytes
+long-goes s owners piece rest bytes none l =
+    by-test (s .stopped)
+    (λ e. stopped-silent s owners [] (piece ++ rest) e ∙ sym (last-says s owners piece bytes (rw (stopped-takes s owners piece e) e) ∙ rw (stopped-takes s owners piece e)))
+    (λ on. long-piece s owners piece rest on none l ∙ sym (last-says s owners piece bytes (rw (long-takes s owners piece on l)) ∙ rw (long-takes s owners piece on l)))
+
+pub next-goes : NextGoes
+unfolding fed ownersFed
+next-goes s owners input from rest =
+    let bytes = drop from input in
+    let k = beforeTen bytes in
+    let line = lineAt input from in
+    let place : from + suc k ≡ from + k + 1 = omega arith in
+    by-test (hasLine input from)
+    (λ t. rw t (by-test (ltb k (length bytes))
+    (λ w. line-taken s owners [] bytes rest (ltb-true _ _ w)
+    ∙ ap (λ d. textOf (takes s owners line .said) ++ meaning (takes s owners line .state) (ownersAfter s owners line) [] (d ++ rest)) (drop-drop (suc k) from input ∙ ap (λ n. drop n input) place ∙ sym (drop-within (from + k + 1) input)))
+    (λ f. let all : k ≡ length bytes = omega (arith, ten-within bytes, ltb-false k (length bytes) f) in
+    let whole : line ≡ bytes = ap (λ n. take n bytes) all ∙ take-length bytes in
+    rw whole (long-goes s owners bytes rest _ all (ltb-true 8192 (length bytes) (rw f at t))))))
+    (λ f. rw f)
+
+pub nothing-left : NothingLeft
+unfolding fed
+nothing-left s owners input from t =
+    let size = length-drop from input in
+    let some : 0 < length (drop from input) = by-contra 1 (length (drop from input)) (λ z. never (hasLine input from) t (none-past input from (omega arith))) in
+    rw t (omega arith, omega arith)
 
 -- one reply ------------------------------------------------------------------------
 

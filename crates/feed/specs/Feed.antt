@@ -1,9 +1,9 @@
--- The next whole line of a buffer: where it ends, and what taking it leaves.
+-- The next line of a buffer: where it ends, and what taking it leaves.
 -- Assumes nothing.
-use mathlib.Core.Bool.{Bool, cond}
+use mathlib.Core.Bool.{Bool, _||_, _&&_, not, cond}
 use mathlib.Core.List.{List, [], _∷_}
-use Prim.Native.Nat.{ℕ, suc, _+_}
-use lib.Dec.{eqb, ltb}
+use Prim.Native.Nat.{ℕ, suc, _+_, _-_, min}
+use lib.Dec.{eqb, ltb, leb}
 use lib.ListN.{length, take, drop}
 use Rattle.stream.specs.declared.State.{State}
 use Rattle.stream.specs.declared.Said.the-variants.{Nothing}
@@ -15,26 +15,30 @@ unfoldable pub beforeTen : List ℕ → ℕ
 beforeTen [] = 0
 beforeTen (byte ∷ bytes) = cond (eqb byte 10) 0 (suc (beforeTen bytes))
 
--- the bytes from a place on begin with a whole line
+-- a line to take begins at a place: a whole one, or one already above 8,192 bytes, which is malformed wherever it ends
 abbrev pub hasLine : List ℕ → ℕ → Bool
-hasLine input from = ltb (beforeTen (drop from input)) (length (drop from input))
+hasLine input from = ltb (beforeTen (drop from input)) (length (drop from input)) || ltb 8192 (length (drop from input))
 
 -- that line, without its byte 10
 abbrev pub lineAt : List ℕ → ℕ → List ℕ
 lineAt input from = take (beforeTen (drop from input)) (drop from input)
 
+-- a line that ends at a place, or behind the last byte, waits for more input: not whole, and not above 8,192 bytes
+abbrev pub waits : ℕ → ℕ → ℕ → Bool
+waits size from end = not (ltb end size) && leb (size - from) 8192
+
 -- nothing taken
 abbrev pub nothing : State → ℕ → Fed
 nothing s from = record { state = s; said = Nothing; next = from }
 
--- the next whole line taken; nothing where no whole line is left
+-- the next line taken; nothing where only a piece of one is left
 unfoldable pub fed : State → List ℕ → List ℕ → ℕ → Fed
 fed s owners input from =
     cond (hasLine input from)
     record {
       state = takes s owners (lineAt input from) .state;
       said = takes s owners (lineAt input from) .said;
-      next = from + beforeTen (drop from input) + 1;
+      next = min (from + beforeTen (drop from input) + 1) (length input);
     }
     (nothing s from)
 

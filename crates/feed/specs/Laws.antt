@@ -3,7 +3,7 @@
 use mathlib.Core.Path.{_≡_}
 use mathlib.Core.Bool.{true, false}
 use mathlib.Core.List.{List, [], _++_}
-use Prim.Native.Nat.{ℕ, _<_}
+use Prim.Native.Nat.{ℕ, _<_, _≤_}
 use lib.ListN.{length, drop}
 use Rattle.stream.specs.declared.State.{State}
 use Rattle.stream.specs.declared.Said.{Said}
@@ -21,9 +21,12 @@ NextGoes =
     meaning s owners [] (drop from input ++ rest)
     ≡ textOf (fed s owners input from .said) ++ meaning (fed s owners input from .state) (ownersFed s owners input from) [] (drop (fed s owners input from .next) input ++ rest)
 
--- a whole line is taken wherever there is one: nothing is left over but a piece without byte 10
+-- a line is taken wherever there is one: nothing is left over but a piece without byte 10, of at most 8,192 bytes
 abbrev pub NothingLeft : Type 0
-NothingLeft = (s : State) (owners input : List ℕ) (from : ℕ) → hasLine input from ≡ true → from < fed s owners input from .next
+NothingLeft = (s : State) (owners input : List ℕ) (from : ℕ) → hasLine input from ≡ true → (from < fed s owners input from .next) × (fed s owners input from .next ≤ length input)
+
+abbrev pub PieceLeft : Type 0
+PieceLeft = (input : List ℕ) (from : ℕ) → hasLine input from ≡ false → (beforeTen (drop from input) ≡ length (drop from input)) × (length (drop from input) ≤ 8192)
 
 -- an unfinished line above 8,192 bytes is malformed at once, whatever comes behind it
 abbrev pub LongPiece : Type 0

@@ -1,16 +1,16 @@
-// Feeding a stream from a buffer: the next whole line of it taken, what its end means, both against the meaning of the whole input.
+// Feeding a stream from a buffer: the next line of it taken, and what the end of the input means, both against the meaning of the whole input.
 use lines::Due;
 use stream::Said;
 use stream::State;
 ghost use mathlib.Core.Path.{_≡_};
-ghost use Prim.Native.Nat.{_≤_, _+_};
+ghost use Prim.Native.Nat.{_≤_, _+_, min};
 ghost use lib.ListN.{length, drop};
 ghost use Rattle.stream.specs.Steps.{nextNumber};
 ghost use Rattle.stream.specs.Meaning.{mayBegin, atEnd};
 ghost use Rattle.feed.specs.Feed as feed;
-ghost use Rattle.feed.specs.Laws.{NextGoes, NothingLeft, LongPiece, EndPrints, FedFixed, EndFixed};
+ghost use Rattle.feed.specs.Laws.{NextGoes, NothingLeft, PieceLeft, LongPiece, EndPrints, FedFixed, EndFixed};
 
-// What the next whole line leaves: the state, what is printed, and the place behind it; the same place where no whole line is left.
+// What the next line leaves: the state, what is printed, and the place behind it; the same place where only a piece of a line is left.
 pub struct Fed {
     pub state: State,
     pub said: Said,
@@ -32,6 +32,27 @@ fn line_end(input: &[u8], from: usize) -> usize
     i
 }
 
+// Whether a line waits for more input: its byte 10 is not there, and it is not too long already.
+fn waits(size: usize, from: usize, end: usize) -> bool
+    requires { ⌜ from ≤ size ⌝ }
+    ensures { λ r. ⌜ r ≡ feed.waits size from end ⌝ }
+{
+    if end < size {
+        return false;
+    }
+    size - from <= 8_192
+}
+
+// The place behind a line and its byte 10, where it has one.
+fn behind(end: usize, size: usize) -> usize
+    ensures { λ r. ⌜ r ≡ min (end + 1) size ⌝ }
+{
+    if end < size {
+        return end + 1;
+    }
+    size
+}
+
 // Nothing taken.
 fn none_taken(state: State, from: usize) -> Fed
     ensures { λ r. ⌜ r ≡ feed.nothing state from ⌝ }
@@ -43,7 +64,7 @@ fn none_taken(state: State, from: usize) -> Fed
     }
 }
 
-// Takes the whole line that begins at a place of the input, where one does.
+// Takes the line that begins at a place of the input: a whole one, or one that is too long already.
 pub fn next_line(state: State, owners: &mut [u16], input: &[u8], from: usize) -> Fed
     ensures reply { λ r. ⌜ r ≡ feed.fed state (now (owners .entry)) (now (input .entry)) from ⌝ }
     ensures table { λ r. ⌜ now (owners .exit) ≡ feed.ownersFed state (now (owners .entry)) (now (input .entry)) from ⌝ }
@@ -52,7 +73,7 @@ pub fn next_line(state: State, owners: &mut [u16], input: &[u8], from: usize) ->
         return none_taken(state, from);
     }
     let end = line_end(input, from);
-    if end == input.len() {
+    if waits(input.len(), from, end) {
         return none_taken(state, from);
     }
     let taken = stream::take_line(state, owners, &input[from..end]);
@@ -61,7 +82,7 @@ pub fn next_line(state: State, owners: &mut [u16], input: &[u8], from: usize) ->
     Fed {
         state: after,
         said,
-        next: end + 1,
+        next: behind(end, input.len()),
     }
 }
 
@@ -109,6 +130,6 @@ pub fn end_of_input(state: State, piece: &[u8]) -> Said
 
 // The laws of feeding: without their proofs this function is not proved.
 pub fn promises()
-    ensures laws { λ _. ⌜ NextGoes × NothingLeft × LongPiece × EndPrints ⌝ }
+    ensures laws { λ _. ⌜ NextGoes × NothingLeft × PieceLeft × LongPiece × EndPrints ⌝ }
     ensures fixed { λ _. ⌜ FedFixed × EndFixed ⌝ }
 {}

@@ -16,7 +16,7 @@ use Rattle.io.specs.Digits.{digits, glyph, Fewest}
 use Rattle.stream.specs.declared.Said.{Said}
 use Rattle.stream.specs.declared.Said.the-variants.{Nothing, Moved, Owner, Wrong}
 use Rattle.stream.proofs.Said as saids
-use Rattle.stream.specs.Text.{decimalWithin, decimal, printedLine, textOf}
+use Rattle.stream.specs.Text.{decimalWithin, decimal, answerName, movedName, slotName, hostName, lineName, printedLine, textOf}
 use Rattle.stream.proofs.Texts.{length-decimal, tenth-below}
 use Rattle.printing.specs.Wrote.{wrote, roomFor, saidAt, placeAfter}
 use Rattle.printing.specs.Laws.{SaidFixed}
@@ -146,6 +146,14 @@ is-nothing Nothing e = refl
 is-nothing (Moved answer moved) e = absurd (omega arith)
 is-nothing (Owner answer slot host) e = absurd (omega arith)
 is-nothing (Wrong line) e = absurd (omega arith)
+
+-- no text is longer than the room asked for
+pub length-text : (said : Said) → length (textOf said) ≤ 84
+length-text Nothing = omega arith
+length-text (Moved answer moved) = omega (arith, length-append (printedLine answerName answer) (printedLine movedName moved), length-line answerName answer, length-line movedName moved)
+length-text (Owner answer slot host) =
+    omega (arith, length-append (printedLine answerName answer ++ printedLine slotName slot) (printedLine hostName host), length-append (printedLine answerName answer) (printedLine slotName slot), length-line answerName answer, length-line slotName slot, length-line hostName host)
+length-text (Wrong line) = omega (arith, length-append (printedLine answerName 13) (printedLine lineName line), length-line answerName 13, length-line lineName line)
 
 -- one case of what is said
 pub said-place : (said is : Said) (size place r : ℕ) → roomFor size place ≡ true → said ≡ is → r ≡ place + length (textOf is) → r ≡ placeAfter said size place

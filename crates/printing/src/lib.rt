@@ -75,7 +75,7 @@ fn put_owner(out: &mut [u8], at: usize, answer: u32, slot: usize, host: u16) -> 
 }
 
 // Whether the output has room for the longest text.
-fn has_room(size: usize, at: usize) -> bool
+pub fn has_room(size: usize, at: usize) -> bool
     ensures { λ r. ⌜ r ≡ roomFor size at ⌝ }
 {
     if size < 84 {

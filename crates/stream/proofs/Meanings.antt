@@ -13,7 +13,7 @@ use Rattle.stream.specs.Meaning.{atEnd, meaning}
 use Rattle.stream.specs.Laws.{StoppedSilent, TakenFixed}
 
 -- a stream that has stopped takes a line and stays as it is
-stopped-takes : (s : State) (owners line : List ℕ) → s .stopped ≡ true → takes s owners line ≡ record { state = s; said = Nothing }
+pub stopped-takes : (s : State) (owners line : List ℕ) → s .stopped ≡ true → takes s owners line ≡ record { state = s; said = Nothing }
 unfolding takes
 stopped-takes s owners line e = rw e
 

@@ -1,0 +1,129 @@
+// Serving an input: it is read in pieces through a fixed buffer, every line of it is run, and what is printed is written before more is read.
+use stream::State;
+ghost use mathlib.Core.Path.{_≡_};
+ghost use Prim.Native.Nat.{_≤_, _<_};
+ghost use lib.ListN.{length};
+
+// Where an input is read and where what it prints is written, as file descriptors.
+struct Ends {
+    input: i32,
+    output: i32,
+}
+
+// What a turn leaves: the state, how many bytes of the buffer are held, and whether there is a next turn.
+struct Step {
+    state: State,
+    held: usize,
+    goes_on: bool,
+}
+
+// The last turn.
+fn last(state: State) -> Step
+    ensures { λ r. ⌜ r .held ≡ 0 ⌝ }
+{
+    Step {
+        state,
+        held: 0,
+        goes_on: false,
+    }
+}
+
+// Writes, and says on standard error if it fails: then nothing more is written.
+fn write(output: i32, text: &[u8]) -> bool {
+    if io::write_all(output, text) {
+        return true;
+    }
+    os::fail(b"farmtable: write");
+    false
+}
+
+// Writes what the end of the input prints, with a piece of a line left over.
+fn at_end(state: State, piece: &[u8], out: &mut [u8], output: i32) {
+    let n = buffer::finish(state, piece, out);
+    write(output, &out[..n]);
+}
+
+// Reads behind the bytes held, of which no line is to be taken; at the end of the input writes what that means.
+fn more(state: State, buf: &mut [u8], held: usize, out: &mut [u8], ends: Ends) -> Step
+    requires { ⌜ held < length (now buf) ⌝ }
+    ensures { λ r. ⌜ r .held ≤ length (now (buf .entry)) ⌝ }
+{
+    let got = libc::read(ends.input, &mut buf[held..]);
+    if got < 0 {
+        os::fail(b"farmtable: read");
+        return last(state);
+    }
+    if got == 0 {
+        at_end(state, &buf[..held], out, ends.output);
+        return last(state);
+    }
+    let n = io::count(got, &buf[held..]);
+    Step {
+        state,
+        held: held + n,
+        goes_on: true,
+    }
+}
+
+// Runs the bytes held and writes what they print; then keeps what is left, or reads more where nothing was taken.
+fn turn(
+    state: State,
+    owners: &mut [u16],
+    buf: &mut [u8],
+    held: usize,
+    out: &mut [u8],
+    ends: Ends,
+) -> Step
+    requires { ⌜ held ≤ length (now buf) ⌝ }
+    requires { ⌜ 8192 < length (now buf) ⌝ }
+    requires { ⌜ 84 ≤ length (now out) ⌝ }
+    ensures { λ r. ⌜ r .held ≤ length (now (buf .entry)) ⌝ }
+{
+    let ran = buffer::run(state, owners, &buf[..held], out);
+    let n = ran.printed;
+    let after = ran.state;
+    if !write(ends.output, &out[..n]) {
+        return last(after);
+    }
+    if after.stopped {
+        return last(after);
+    }
+    let next = ran.next;
+    if next == 0 {
+        return more(after, buf, held, out, ends);
+    }
+    Step {
+        state: after,
+        held: buffer::keep(&mut buf[..held], next),
+        goes_on: true,
+    }
+}
+
+// Turn after turn; they are counted down from a number that no run uses up, since a proved loop has to end.
+fn turns(owners: &mut [u16], buf: &mut [u8], out: &mut [u8], ends: Ends)
+    requires { ⌜ 8192 < length (now buf) ⌝ }
+    requires { ⌜ 84 ≤ length (now out) ⌝ }
+{
+    let mut state = stream::start();
+    let mut held = 0;
+    let mut left = u64::MAX;
+    while left > 0 {
+        let step = turn(state, owners, buf, held, out, ends);
+        if !step.goes_on {
+            return;
+        }
+        let after = step.state;
+        state = after;
+        held = step.held;
+        left -= 1;
+    }
+}
+
+// Serves a whole input, from one file descriptor to another, in memory that does not grow.
+pub fn serve(input: i32, output: i32) {
+    let mut owners = [0u16; 16384];
+    let mut buf = io::large_buffer();
+    let mut out = io::large_buffer();
+    let ends = Ends { input, output };
+    turns(&mut owners, &mut buf, &mut out, ends);
+}
