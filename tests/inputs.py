@@ -34,9 +34,9 @@ class Trace:
             self.lines.append(b"rate=%d" % rate)
 
     def add(self):
-        host = number(self.chance, self.top)
-        self.change(b"add", host, number(self.chance, self.rates))
-        if host not in self.on:
+        host, rate = number(self.chance, self.top), number(self.chance, self.rates)
+        self.change(b"add", host, rate)
+        if 1 <= host <= 65535 and 1 <= rate <= 1000000 and host not in self.on and len(self.on) < 256:
             self.on.append(host)
 
     def pick(self):
@@ -89,9 +89,11 @@ def medium(chance):
 
 
 def crowded(chance):
-    """Around 256 hosts, some refused for want of room."""
+    """256 hosts, then some refused for want of room, then around 256."""
     trace = Trace(chance, chance.randrange(200, 700), 256, 65535, chance.choice([3, 100, 1000000]))
-    while len(trace.on) < 258:
+    while len(trace.on) < 256:
+        trace.add()
+    for _ in range(5):
         trace.add()
     return trace.fill(60)
 
@@ -109,12 +111,19 @@ def whole(lines):
     return b"".join(line + b"\n" for line in lines)
 
 
+def spoil_number(chance, tail):
+    return chance.choice([
+        b"0" + tail, b"0" + tail, b"00", b"", b"1" * 10, b"0" * 9, b"+" + tail, b"-" + tail, b" " + tail, tail + b" ", tail + b"\r",
+        tail + b"x", b"%d" % (4294967296 + chance.randrange(9)), tail + b"0" * 8190])
+
+
 def spoil_line(chance, line):
     head, _, tail = line.partition(b"=")
+    if tail.isdigit() and chance.random() < 0.7:
+        return head + b"=" + spoil_number(chance, tail)
     return chance.choice([
         line.upper(), b" " + line, line + b" ", line + b"\r", line[:-1], line + b"0", head + tail, head + b"==" + tail,
-        head + b"=", head + b"=+" + tail, head + b"=-" + tail, head + b"=0" + tail, head + b"=" + b"1" * 10,
-        line + b"x" * chance.choice([8185, 8192, 9000]), chance.choice(SPOILT)])
+        head + b"=", line + b"x" * chance.choice([8185, 8192, 9000]), chance.choice(SPOILT)])
 
 
 def spoilt(chance):

@@ -203,6 +203,14 @@ static struct roster roster_after(const struct roster *roster, struct event even
     return after;
 }
 
+static enum answer change_roster(const struct roster *roster, struct event event, struct roster *after)
+{
+    enum answer answer = check_event(roster, event);
+    if (answer == DONE)
+        *after = roster_after(roster, event);
+    return answer;
+}
+
 /* nobody, owner 0, has quota 0, so unowned slots are freed like those of a dropped host */
 static void list_freed(struct table table, uint32_t held[], const uint32_t wanted[], struct move *move)
 {
@@ -248,14 +256,14 @@ static void plan(const struct roster *after, struct table table, struct move *mo
 enum answer apply(struct roster *roster, struct table table, uint32_t slots, struct event event, uint32_t *moved)
 {
     static struct move move;
+    struct roster after = {0};
     uint32_t slot;
     *moved = 0;
     enum answer answer = check_table(roster, table, slots, &slot);
     if (answer == DONE)
-        answer = check_event(roster, event);
+        answer = change_roster(roster, event, &after);
     if (answer != DONE)
         return answer;
-    struct roster after = roster_after(roster, event);
     plan(&after, table, &move);
     if (after.count > 0 && move.freed_count != move.receiver_count)
         return UNEQUAL;
@@ -275,17 +283,16 @@ static uint32_t quota_of(const struct roster *roster, uint32_t slots, uint32_t h
 
 enum answer forecast(const struct roster *roster, uint32_t slots, struct event event, uint32_t asked, int32_t *change)
 {
+    struct roster after = {0};
     *change = 0;
     enum answer answer = check_sizes(roster, slots);
     if (answer == DONE && !number_in_range(asked))
         answer = BAD_NUMBER;
     if (answer == DONE)
-        answer = check_event(roster, event);
-    if (answer != DONE)
-        return answer;
-    struct roster after = roster_after(roster, event);
-    *change = (int32_t)quota_of(&after, slots, asked) - (int32_t)quota_of(roster, slots, asked);
-    return DONE;
+        answer = change_roster(roster, event, &after);
+    if (answer == DONE)
+        *change = (int32_t)quota_of(&after, slots, asked) - (int32_t)quota_of(roster, slots, asked);
+    return answer;
 }
 
 enum answer report(const struct roster *roster, uint32_t slots, struct record *list, uint64_t length)
