@@ -122,15 +122,15 @@ roomed : (size : ℕ) → 84 ≤ size → roomFor size 0 ≡ true
 unfolding roomFor
 roomed size l = le-leb (0 + 84) size (omega arith)
 
--- a run that takes nothing, though it may, leaves a piece of at most 8,192 bytes
-pub run-none : (s : State) (owners input : List ℕ) (size : ℕ) → run s owners input size .next ≡ 0 → run s owners input size .state .stopped ≡ false → 84 ≤ size → length input ≤ 8192
-run-none s owners input size still on room =
+-- a run that takes nothing, though it may, has no line to take, and leaves a piece of at most 8,192 bytes
+pub run-idle : (s : State) (owners input : List ℕ) (size : ℕ) → run s owners input size .next ≡ 0 → run s owners input size .state .stopped ≡ false → 84 ≤ size → hasLine input 0 ≡ false
+run-idle s owners input size still on room =
     by-test (goesOn input size (begun s owners))
     (λ g. absurd (let moved = takes-one input size (length input) (begun s owners) g (omega arith) in omega arith))
     (λ g.
     let same = no-more input size (length input) (begun s owners) g in
     let may : mayGoOn (s .stopped) size 0 ≡ true = rw (ap (λ t. t .state .stopped) (sym same) ∙ on, roomed size room) in
-    piece-left input 0 (rw may at g) .1)
+    rw may at g)
 
 -- what the end of the input prints stays within the output
 pub finish-within : (said : Said) (size : ℕ) → placeAfter said size 0 ≤ size

@@ -5,14 +5,15 @@ use mathlib.Core.Bool.{false}
 use mathlib.Core.List.{List}
 use Prim.Native.Nat.{ℕ, _≤_, _<_}
 use native.Mathlib.Omega.{arith}
-use lib.ListN.{length, take, drop, length-drop}
+use lib.ListN.{length, take}
 use lib.Seq.{length-take-le}
 use Rattle.stream.specs.declared.State.{State}
 use Rattle.stream.specs.declared.Said.{Said}
+use Rattle.feed.proofs.Lines.{piece-left}
 use Rattle.printing.specs.Wrote.{placeAfter}
 use Rattle.buffer.specs.declared.Ran.{Ran}
 use Rattle.buffer.specs.Run.{run, ran}
-use Rattle.buffer.proofs.Runs.{run-within, run-none, finish-within}
+use Rattle.buffer.proofs.Runs.{run-within, run-idle, finish-within}
 
 pub taken : (n : ℕ) (l : List ℕ) → n ≤ length l → n ≡ length (take n l)
 taken n l h = sym (length-take-le n l h)
@@ -32,10 +33,7 @@ module _ (r : Ran) (s : State) (owners buf out : List ℕ) (held : ℕ) (is : r 
   -- a run that took nothing leaves room behind the bytes held
   pub room-left : held ≤ length buf → 8192 < length buf → 84 ≤ length out → r .next ≡ 0 → r .state .stopped ≡ false → held < length buf
   room-left h large room still on =
-      let few = run-none s owners (take held buf) (length out) (sym (ap (λ x. x .next) is) ∙ still) (sym (ap (λ x. x .state .stopped) is) ∙ on) room in
+      let none = run-idle s owners (take held buf) (length out) (sym (ap (λ x. x .next) is) ∙ still) (sym (ap (λ x. x .state .stopped) is) ∙ on) room in
+      let few = piece-left (take held buf) 0 none .1 in
       let size = length-take-le held buf h in
       omega arith
-
--- the bytes kept are some of those held
-pub kept-fits : (n from held : ℕ) (buf : List ℕ) → held ≤ length buf → n ≡ length (drop from (take held buf)) → n ≤ length buf
-kept-fits n from held buf h e = let size = length-take-le held buf h in let left = length-drop from (take held buf) in omega arith

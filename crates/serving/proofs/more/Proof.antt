@@ -1,6 +1,10 @@
--- `serving::more` meets its contract: as many bytes are held as were held and read.
+-- `serving::more` meets its contract: what was read stands behind the bytes held.
 -- Assumes nothing.
+use native.Mathlib.Omega.{arith}
+use mathlib.Core.Path.{refl}
+use Rattle.base.proofs.Tests.{never}
 use Rattle.serving.proofs.Bounds.{taken}
+use Rattle.serving.proofs.Holdings.{read-behind}
 use borrow.Author.Needs.{needs}
 use Rattle.serving.proofs.more.Statement.{statement}
 use Rattle.serving.proofs.more.Tie as tie
@@ -30,7 +34,7 @@ same-length : tie.Need-same-length
 same-length c = search needs
 
 returns : tie.Need-returns
-returns c = search needs
+returns c = (c .last .ensures .0, λ on. never (c .last .result .again) on (c .last .ensures .1 .1))
 
 slice-reshare-prefix-at-end : tie.Need-slice-reshare-prefix-at-end
 slice-reshare-prefix-at-end c = search needs
@@ -51,7 +55,7 @@ same-length-3 : tie.Need-same-length-3
 same-length-3 c = search needs
 
 returns-2 : tie.Need-returns-2
-returns-2 c = search needs
+returns-2 c = (c .last2 .ensures .0, λ on. never (c .last2 .result .again) on (c .last2 .ensures .1 .1))
 
 sub-count : tie.Need-sub-count
 sub-count c = search needs
@@ -65,14 +69,14 @@ part-count-end c = search needs
 count-requires : tie.Need-count-requires
 count-requires c κs = search needs
 
-add-t10 : tie.Need-add-t10
-add-t10 c = search needs
+add-t11 : tie.Need-add-t11
+add-t11 c = search needs
 
 same-length-4 : tie.Need-same-length-4
 same-length-4 c = search needs
 
 returns-3 : tie.Need-returns-3
-returns-3 c = search needs
+returns-3 c = let args = c .before .before .before .before .before .before .before .before .before .before .before .before .args in (refl, λ on. read-behind (args .buf .now) _ (args .held) (c .count .result) (omega arith))
 
 pub more-spec : {M : Type 1} → statement M
 more-spec =
@@ -98,6 +102,6 @@ more-spec =
     part-count-start
     part-count-end
     count-requires
-    add-t10
+    add-t11
     same-length-4
     returns-3)

@@ -1,7 +1,11 @@
--- `serving::turn` meets its contract: a run stays within the output, and one that takes nothing leaves room to read.
+-- `serving::turn` meets its contract: a run stays within the output, and what is kept or read leads to the next turn.
 -- Assumes nothing.
-use native.Mathlib.Omega.{arith}
-use Rattle.serving.proofs.Bounds.{taken, run-fits, room-left, kept-fits}
+use mathlib.Core.Path.{sym}
+use mathlib.Core.Bool.{true, false, true≢false}
+use lib.ListN.{length}
+use Rattle.base.proofs.Tests.{never}
+use Rattle.serving.proofs.Bounds.{taken, run-fits, room-left}
+use Rattle.serving.proofs.Holdings.{over, ended, longer, shorter}
 use borrow.Author.Needs.{needs}
 use Rattle.serving.proofs.turn.Statement.{statement}
 use Rattle.serving.proofs.turn.Tie as tie
@@ -37,7 +41,11 @@ same-length-3 : tie.Need-same-length-3
 same-length-3 c = search needs
 
 returns : tie.Need-returns
-returns c = search needs
+returns c =
+    let start = c .before .before .before .before .before .before .before .before .before .before .before .before .before .before .before .before .before in
+    let args = start .args in
+    let ran = c .before .before .before .before .before .before .before .before .before .before .run in
+    (λ on. never (c .last .result .again) on (c .last .ensures .1 .1), λ off. rw (c .last .ensures .0, c .last .ensures .1 .0) (over (start .pre .0) (length (args .out .now)) (ran .result) (ran .ensures .0) false (λ w. absurd (true≢false (sym w)))))
 
 last-requires-2 : tie.Need-last-requires-2
 last-requires-2 c κs = search needs
@@ -52,14 +60,18 @@ same-length-6 : tie.Need-same-length-6
 same-length-6 c = search needs
 
 returns-2 : tie.Need-returns-2
-returns-2 c = search needs
+returns-2 c =
+    let start = c .before .before .before .before .before .before .before .before .before .before .before .before .before .before .before .before .before .before in
+    let args = start .args in
+    let ran = c .before .before .before .before .before .before .before .before .before .before .before .run in
+    (λ on. never (c .last2 .result .again) on (c .last2 .ensures .1 .1), λ off. rw (c .last2 .ensures .0, c .last2 .ensures .1 .0) (over (start .pre .0) (length (args .out .now)) (ran .result) (ran .ensures .0) true (λ w. c .before .if2 .taken)))
 
 more-requires : tie.Need-more-requires
 more-requires c κs =
     let start = c .before .before .before .before .before .before .before .before .before .before .before .before .before .before .before .before .before .before .before .before in
     let args = start .args in
     let ran = c .before .before .before .before .before .before .before .before .before .before .before .before .before .run in
-    room-left (ran .result) (args .state) (args .owners .now) (args .buf .now) (args .out .now) (args .held) (ran .ensures .0) (start .pre .0) (start .pre .1 .0) (start .pre .1 .1) (c .before .before .if3 .taken) (c .before .before .before .if2 .left)
+    room-left (ran .result) (args .state) (args .owners .now) (args .buf .now) (args .out .now) (args .held) (ran .ensures .0) (start .pre .0 .within) (start .pre .1 .0) (start .pre .1 .1) (c .before .before .if3 .taken) (c .before .before .before .if2 .left)
 
 same-length-7 : tie.Need-same-length-7
 same-length-7 c = search needs
@@ -71,7 +83,16 @@ same-length-9 : tie.Need-same-length-9
 same-length-9 c = search needs
 
 returns-3 : tie.Need-returns-3
-returns-3 c = search needs
+returns-3 c =
+    let start = c .before .before .before .before .before .before .before .before .before .before .before .before .before .before .before .before .before .before .before .before .before .before .before .before .before in
+    let args = start .args in
+    let ran = c .before .before .before .before .before .before .before .before .before .before .before .before .before .before .before .before .before .before .run in
+    let more = c .before .before .before .before .more in
+    let still = c .before .before .before .before .before .before .before .if3 .taken in
+    let kept = start .pre .0 in (
+      λ on. rw (more .ensures .0) (longer kept (length (args .out .now)) (ran .result) (ran .ensures .0) _ _ _ (ran .ensures .1 .0) (more .kept .1 .0) still (more .ensures .1 on)),
+      λ off. rw (more .ensures .0) (ended kept (length (args .out .now)) (ran .result) (ran .ensures .0) _ still (c .before .before .before .before .before .before .before .before .if2 .left) (start .pre .1 .1)),
+    )
 
 slice-relend-prefix-keep : tie.Need-slice-relend-prefix-keep
 slice-relend-prefix-keep c = search needs
@@ -92,7 +113,12 @@ same-length-12 : tie.Need-same-length-12
 same-length-12 c = search needs
 
 returns-4 : tie.Need-returns-4
-returns-4 c = let args = c .before .before .before .before .before .before .before .before .before .before .before .before .before .before .before .before .before .before .before .before .before .before .args in kept-fits (c .before .before .keep .result) (c .before .before .before .before .before .before .before .before .before .before .before .before .before .before .before .run .result .next) (args .held) (args .buf .now) (omega arith) (c .before .before .keep .ensures .0)
+returns-4 c =
+    let start = c .before .before .before .before .before .before .before .before .before .before .before .before .before .before .before .before .before .before .before .before .before .before in
+    let args = start .args in
+    let ran = c .before .before .before .before .before .before .before .before .before .before .before .before .before .before .before .run in
+    let keep = c .before .before .keep in
+    (λ on. shorter (start .pre .0) (length (args .out .now)) (ran .result) (ran .ensures .0) _ _ _ (ran .ensures .1 .0) (keep .ensures .0) (keep .ensures .1), λ off. absurd (true≢false off))
 
 pub turn-spec : {M : Type 1} → statement M
 turn-spec =
