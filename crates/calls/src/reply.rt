@@ -1,0 +1,154 @@
+// The lines that call a function of the library, each with its reply.
+use crate::dump;
+use crate::memory;
+use crate::print;
+use crate::set;
+use crate::words::begins;
+use crate::words::long_number;
+use crate::words::number;
+use crate::words::rest_of;
+use events::Event;
+
+// Puts a reply of two numbers.
+fn put_two(out: &mut [u8], at: usize, name: &[u8], answer: u32, second: u64) -> usize {
+    let a = print::put_number(out, at, name, answer as u64);
+    let b = print::put_number(out, a, b" ", second);
+    print::put_end(out, b)
+}
+
+// `check S`.
+fn check(words: &[u32], table: &[u16], out: &mut [u8], at: usize, line: &[u8]) -> usize {
+    let r = memory::roster_of(words);
+    let n = memory::in_use(table, words);
+    let c = table::check(r, number(line, 1), &table[0..n]);
+    let next = put_two(out, at, b"check ", c.answer, c.slot as u64);
+    dump::put_memory(words, table, out, next)
+}
+
+// `layout S`.
+fn layout(words: &[u32], table: &mut [u16], out: &mut [u8], at: usize, line: &[u8]) -> usize {
+    let r = memory::roster_of(words);
+    let n = memory::in_use(table, words);
+    let a = table::layout(r, number(line, 1), &mut table[0..n]);
+    let b = print::put_number(out, at, b"layout ", a as u64);
+    let next = print::put_end(out, b);
+    dump::put_memory(words, table, out, next)
+}
+
+// The event that a text names with its first word.
+fn event_of(text: &[u8], host: u32, rate: u32) -> Event {
+    if begins(text, b"add ") {
+        return Event::Add { host, rate };
+    }
+    if begins(text, b"drop ") {
+        return Event::Drop { host };
+    }
+    Event::Rate { host, rate }
+}
+
+// `add S H R`, `drop S H`, `rate S H R`.
+fn event(words: &mut [u32], table: &mut [u16], out: &mut [u8], at: usize, line: &[u8]) -> usize {
+    let r = memory::roster_of(words);
+    let n = memory::in_use(table, words);
+    let e = event_of(line, number(line, 2), number(line, 3));
+    let a = events::apply(r, number(line, 1), e, &mut table[0..n]);
+    let after = a.roster;
+    memory::keep_roster(words, after);
+    let next = put_two(out, at, b"event ", a.answer, a.moved as u64);
+    dump::put_memory(words, table, out, next)
+}
+
+// The host asked about, behind an event's own words.
+fn asked(event: &[u8]) -> u32 {
+    if begins(event, b"drop ") {
+        return number(event, 2);
+    }
+    number(event, 3)
+}
+
+// `ask S add H R X`, `ask S drop H X`, `ask S rate H R X`.
+fn ask(words: &[u32], table: &[u16], out: &mut [u8], at: usize, line: &[u8]) -> usize {
+    let text = rest_of(line, 2);
+    let e = event_of(text, number(text, 1), number(text, 2));
+    let f = events::forecast(memory::roster_of(words), number(line, 1), e, asked(text));
+    let change = f.change;
+    let a = print::put_number(out, at, b"ask ", f.answer as u64);
+    let b = print::put_change(out, a, b" ", change);
+    let next = print::put_end(out, b);
+    dump::put_memory(words, table, out, next)
+}
+
+// Puts yes or no.
+fn put_yes(out: &mut [u8], at: usize, yes: bool) -> usize {
+    if yes {
+        return print::put(out, at, b" yes\n");
+    }
+    print::put(out, at, b" no\n")
+}
+
+// `load S P`.
+fn load(words: &[u32], table: &[u16], out: &mut [u8], at: usize, line: &[u8]) -> usize {
+    let c = load::carries(memory::roster_of(words), number(line, 1), number(line, 2));
+    let a = print::put_number(out, at, b"load ", c.answer as u64);
+    let next = put_yes(out, a, c.carries);
+    dump::put_memory(words, table, out, next)
+}
+
+// `find L KEY`.
+fn find(words: &[u32], table: &[u16], out: &mut [u8], at: usize, line: &[u8]) -> usize {
+    let n = memory::in_use(table, words);
+    let stated = long_number(line, 1) as usize;
+    let f = find::look_up(&table[0..n], stated, rest_of(line, 2));
+    let a = print::put_number(out, at, b"find ", f.answer as u64);
+    let b = print::put_number(out, a, b" ", f.slot as u64);
+    let c = print::put_number(out, b, b" ", f.host as u64);
+    let next = print::put_end(out, c);
+    dump::put_memory(words, table, out, next)
+}
+
+// Answers a line that asks a question; any other is an event or sets a part of the memory.
+pub fn take_line(
+    words: &mut [u32],
+    table: &mut [u16],
+    out: &mut [u8],
+    at: usize,
+    line: &[u8],
+) -> usize {
+    if begins(line, b"check ") {
+        return check(words, table, out, at, line);
+    }
+    if begins(line, b"ask ") {
+        return ask(words, table, out, at, line);
+    }
+    if begins(line, b"load ") {
+        return load(words, table, out, at, line);
+    }
+    if begins(line, b"find ") {
+        return find(words, table, out, at, line);
+    }
+    take_change(words, table, out, at, line)
+}
+
+// Answers a line that writes; any other sets a part of the memory.
+fn take_change(
+    words: &mut [u32],
+    table: &mut [u16],
+    out: &mut [u8],
+    at: usize,
+    line: &[u8],
+) -> usize {
+    if begins(line, b"layout ") {
+        return layout(words, table, out, at, line);
+    }
+    if begins(line, b"add ") {
+        return event(words, table, out, at, line);
+    }
+    if begins(line, b"drop ") {
+        return event(words, table, out, at, line);
+    }
+    if begins(line, b"rate ") {
+        return event(words, table, out, at, line);
+    }
+    set::take_setting(words, table, line);
+    at
+}
