@@ -2,6 +2,7 @@
 // A comparison of the library with another program that reads the same lines and has to print the same bytes.
 mod dump;
 mod input;
+mod list;
 mod memory;
 mod print;
 mod reply;

@@ -1,5 +1,4 @@
 // The memory that the calls work on: one run of words for the roster, the report list and the lengths in use, beside the table.
-use report::HostRecord;
 use roster::Roster;
 ghost use Prim.Native.Nat.{_≤_};
 ghost use lib.ListN.{length};

@@ -1,5 +1,6 @@
 // The lines that call a function of the library, each with its reply.
 use crate::dump;
+use crate::list;
 use crate::memory;
 use crate::print;
 use crate::set;
@@ -78,6 +79,14 @@ fn ask(words: &[u32], table: &[u16], out: &mut [u8], at: usize, line: &[u8]) -> 
     dump::put_memory(words, table, out, next)
 }
 
+// `report S`.
+fn report(words: &mut [u32], table: &[u16], out: &mut [u8], at: usize, line: &[u8]) -> usize {
+    let answer = list::report_on(words, number(line, 1));
+    let a = print::put_number(out, at, b"report ", answer as u64);
+    let next = print::put_end(out, a);
+    dump::put_memory(words, table, out, next)
+}
+
 // Puts yes or no.
 fn put_yes(out: &mut [u8], at: usize, yes: bool) -> usize {
     if yes {
@@ -139,6 +148,9 @@ fn take_change(
 ) -> usize {
     if begins(line, b"layout ") {
         return layout(words, table, out, at, line);
+    }
+    if begins(line, b"report ") {
+        return report(words, table, out, at, line);
     }
     if begins(line, b"add ") {
         return event(words, table, out, at, line);
