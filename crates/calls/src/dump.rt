@@ -73,9 +73,15 @@ fn put_list(words: &[u32], out: &mut [u8], at: usize) -> usize {
     let n = memory::records_used(words);
     let mut i = 0;
     while i < n {
-        let number = word(words, memory::NUMBERS + i);
-        let rate = word(words, memory::SPEEDS + i);
-        next = put_record(out, next, number, rate, word(words, memory::QUOTAS + i));
+        let number = word(words, memory::LIST_NUMBERS + i);
+        let rate = word(words, memory::LIST_RATES + i);
+        next = put_record(
+            out,
+            next,
+            number,
+            rate,
+            word(words, memory::LIST_QUOTAS + i),
+        );
         i += 1;
     }
     print::put_end(out, next)

@@ -56,9 +56,12 @@ fn take_lines(
     }
 }
 
-// Moves the rest of the buffer to its front, and answers how long it is.
+// Moves the rest of the buffer to its front, and answers how long it is. A rest that fills the buffer is no line, and is let go.
 fn move_rest(buffer: &mut [u8], from: usize, end: usize) -> usize {
     if end < from {
+        return 0;
+    }
+    if buffer.len() <= end - from {
         return 0;
     }
     let mut i = from;
@@ -80,24 +83,16 @@ fn move_byte(buffer: &mut [u8], from: usize, to: usize) {
     buffer[to] = buffer[from];
 }
 
-// Reads behind what is kept, and answers how much of the buffer is full. What fills a whole buffer with no line end is let go.
+// Reads once behind what is kept, and answers how much of the buffer is full.
 fn read_more(buffer: &mut [u8], kept: usize) -> usize
     ensures { λ r. ⌜ r ≤ length (now (buffer .exit)) ⌝ }
 {
     if buffer.len() <= kept {
-        return read_behind(buffer, 0);
+        return 0;
     }
-    read_behind(buffer, kept)
-}
-
-// Reads once into the buffer from a place on.
-fn read_behind(buffer: &mut [u8], from: usize) -> usize
-    requires { ⌜ from ≤ length (now buffer) ⌝ }
-    ensures { λ r. ⌜ r ≤ length (now (buffer .exit)) ⌝ }
-{
-    let room = &mut buffer[from..];
+    let room = &mut buffer[kept..];
     let got = libc::read(STDIN_FILENO, room);
-    from + io::count(got, room)
+    kept + io::count(got, room)
 }
 
 // One read, and the lines that it completes.

@@ -34,9 +34,9 @@ fn record_at(words: &[u32], i: usize) -> HostRecord
     requires { ⌜ i < 300 ⌝ }
 {
     HostRecord {
-        number: memory::narrow(word(words, memory::NUMBERS + i)),
-        rate: word(words, memory::SPEEDS + i),
-        quota: word(words, memory::QUOTAS + i),
+        number: memory::narrow(word(words, memory::LIST_NUMBERS + i)),
+        rate: word(words, memory::LIST_RATES + i),
+        quota: word(words, memory::LIST_QUOTAS + i),
     }
 }
 
@@ -55,9 +55,9 @@ fn list_of(words: &[u32]) -> [HostRecord; 300] {
 fn keep_record(words: &mut [u32], i: usize, record: HostRecord)
     requires { ⌜ i < 300 ⌝ }
 {
-    keep(words, memory::NUMBERS + i, record.number as u32);
-    keep(words, memory::SPEEDS + i, record.rate);
-    keep(words, memory::QUOTAS + i, record.quota);
+    keep(words, memory::LIST_NUMBERS + i, record.number as u32);
+    keep(words, memory::LIST_RATES + i, record.rate);
+    keep(words, memory::LIST_QUOTAS + i, record.quota);
 }
 
 // Keeps a list.

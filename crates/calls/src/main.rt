@@ -1,5 +1,5 @@
 // Reads lines on standard input, each of which sets a part of the memory or calls a function of the library, and prints each reply with the memory after it.
-// A comparison of the library with another program that reads the same lines and has to print the same bytes.
+// Another program can read the same lines: then replies and lent memory are compared byte by byte.
 mod dump;
 mod input;
 mod list;

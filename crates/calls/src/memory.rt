@@ -6,11 +6,11 @@ ghost use lib.ListN.{length};
 // Where each part begins behind the host numbers: rates, then numbers, rates and quotas of the report list, and three single words.
 pub const RATES: usize = 256;
 
-pub const NUMBERS: usize = 512;
+pub const LIST_NUMBERS: usize = 512;
 
-pub const SPEEDS: usize = 812;
+pub const LIST_RATES: usize = 812;
 
-pub const QUOTAS: usize = 1_112;
+pub const LIST_QUOTAS: usize = 1_112;
 
 pub const COUNT: usize = 1_412;
 

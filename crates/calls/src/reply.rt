@@ -115,7 +115,56 @@ fn find(words: &[u32], table: &[u16], out: &mut [u8], at: usize, line: &[u8]) ->
     dump::put_memory(words, table, out, next)
 }
 
-// Answers a line that asks a question; any other is an event or sets a part of the memory.
+// What a line calls.
+enum Call {
+    Check,
+    Layout,
+    Event,
+    Ask,
+    Report,
+    Load,
+    Find,
+    Nothing,
+}
+
+// The call of an event's line.
+fn event_call(line: &[u8]) -> Call {
+    if begins(line, b"add ") {
+        return Call::Event;
+    }
+    if begins(line, b"drop ") {
+        return Call::Event;
+    }
+    if begins(line, b"rate ") {
+        return Call::Event;
+    }
+    Call::Nothing
+}
+
+// The call that a line names with its first word.
+fn call_of(line: &[u8]) -> Call {
+    if begins(line, b"check ") {
+        return Call::Check;
+    }
+    if begins(line, b"layout ") {
+        return Call::Layout;
+    }
+    if begins(line, b"ask ") {
+        return Call::Ask;
+    }
+    if begins(line, b"report ") {
+        return Call::Report;
+    }
+    if begins(line, b"load ") {
+        return Call::Load;
+    }
+    if begins(line, b"find ") {
+        return Call::Find;
+    }
+    event_call(line)
+}
+
+// Answers a line that calls a function; any other sets a part of the memory, or is unknown.
 pub fn take_line(
     words: &mut [u32],
     table: &mut [u16],
@@ -123,44 +172,17 @@ pub fn take_line(
     at: usize,
     line: &[u8],
 ) -> usize {
-    if begins(line, b"check ") {
-        return check(words, table, out, at, line);
+    match call_of(line) {
+        Call::Check => check(words, table, out, at, line),
+        Call::Layout => layout(words, table, out, at, line),
+        Call::Event => event(words, table, out, at, line),
+        Call::Ask => ask(words, table, out, at, line),
+        Call::Report => report(words, table, out, at, line),
+        Call::Load => load(words, table, out, at, line),
+        Call::Find => find(words, table, out, at, line),
+        Call::Nothing => {
+            set::take_setting(words, table, line);
+            at
+        }
     }
-    if begins(line, b"ask ") {
-        return ask(words, table, out, at, line);
-    }
-    if begins(line, b"load ") {
-        return load(words, table, out, at, line);
-    }
-    if begins(line, b"find ") {
-        return find(words, table, out, at, line);
-    }
-    take_change(words, table, out, at, line)
-}
-
-// Answers a line that writes; any other sets a part of the memory.
-fn take_change(
-    words: &mut [u32],
-    table: &mut [u16],
-    out: &mut [u8],
-    at: usize,
-    line: &[u8],
-) -> usize {
-    if begins(line, b"layout ") {
-        return layout(words, table, out, at, line);
-    }
-    if begins(line, b"report ") {
-        return report(words, table, out, at, line);
-    }
-    if begins(line, b"add ") {
-        return event(words, table, out, at, line);
-    }
-    if begins(line, b"drop ") {
-        return event(words, table, out, at, line);
-    }
-    if begins(line, b"rate ") {
-        return event(words, table, out, at, line);
-    }
-    set::take_setting(words, table, line);
-    at
 }

@@ -26,6 +26,9 @@ fn clear(words: &mut [u32]) {
 
 // `fill A B O`.
 fn fill(table: &mut [u16], from: usize, to: usize, owner: u16) {
+    if table.len() < to {
+        return;
+    }
     let mut i = from;
     while i < to {
         memory::keep_owner(table, i, owner);
@@ -41,33 +44,75 @@ fn set_record(words: &mut [u32], line: &[u8]) {
     }
     keep(
         words,
-        memory::NUMBERS + p,
+        memory::LIST_NUMBERS + p,
         memory::narrow(number(line, 2)) as u32,
     );
-    keep(words, memory::SPEEDS + p, number(line, 3));
-    keep(words, memory::QUOTAS + p, number(line, 4));
+    keep(words, memory::LIST_RATES + p, number(line, 3));
+    keep(words, memory::LIST_QUOTAS + p, number(line, 4));
+}
+
+// What a line sets.
+enum Setting {
+    Host,
+    Count,
+    Clear,
+    Length,
+    Fill,
+    Records,
+    Stale,
+    Nothing,
+}
+
+// Whether a line is `clear`, the one that has no numbers.
+fn is_clear(line: &[u8]) -> bool {
+    if line.len() != 5 {
+        return false;
+    }
+    begins(line, b"clear")
+}
+
+// The setting that a line names with its first word.
+fn setting_of(line: &[u8]) -> Setting {
+    if begins(line, b"host ") {
+        return Setting::Host;
+    }
+    if begins(line, b"count ") {
+        return Setting::Count;
+    }
+    if is_clear(line) {
+        return Setting::Clear;
+    }
+    if begins(line, b"length ") {
+        return Setting::Length;
+    }
+    if begins(line, b"fill ") {
+        return Setting::Fill;
+    }
+    if begins(line, b"records ") {
+        return Setting::Records;
+    }
+    if begins(line, b"stale ") {
+        return Setting::Stale;
+    }
+    Setting::Nothing
 }
 
 // Does what a line sets; nothing where its word is unknown.
 pub fn take_setting(words: &mut [u32], table: &mut [u16], line: &[u8]) {
-    if begins(line, b"host ") {
-        set_host(words, line);
-    } else if begins(line, b"count ") {
-        keep(words, memory::COUNT, number(line, 1));
-    } else if begins(line, b"clear") {
-        clear(words);
-    } else if begins(line, b"length ") {
-        keep(words, memory::LENGTH, number(line, 1));
-    } else if begins(line, b"fill ") {
-        fill(
+    let first = number(line, 1);
+    match setting_of(line) {
+        Setting::Host => set_host(words, line),
+        Setting::Count => keep(words, memory::COUNT, first),
+        Setting::Clear => clear(words),
+        Setting::Length => keep(words, memory::LENGTH, first),
+        Setting::Fill => fill(
             table,
-            number(line, 1) as usize,
+            first as usize,
             number(line, 2) as usize,
             memory::narrow(number(line, 3)),
-        );
-    } else if begins(line, b"records ") {
-        keep(words, memory::RECORDS, number(line, 1));
-    } else if begins(line, b"stale ") {
-        set_record(words, line);
+        ),
+        Setting::Records => keep(words, memory::RECORDS, first),
+        Setting::Stale => set_record(words, line),
+        Setting::Nothing => {}
     }
 }

@@ -16,6 +16,9 @@ abbrev μ-loop : tie.MeasureT-loop
 returns : tie.Need-returns Inv-loop μ-loop
 returns c = search needs
 
+returns-2 : tie.Need-returns-2 Inv-loop μ-loop
+returns-2 c = search needs
+
 loop-holds : tie.Need-loop-holds Inv-loop μ-loop
 loop-holds c = search needs
 
@@ -37,8 +40,8 @@ loop-again c = search needs
 same-length : tie.Need-same-length Inv-loop μ-loop
 same-length c = search needs
 
-returns-2 : tie.Need-returns-2 Inv-loop μ-loop
-returns-2 c = search needs
+returns-3 : tie.Need-returns-3 Inv-loop μ-loop
+returns-3 c = search needs
 
 pub move-rest-spec : {M : Type 1} → statement M
 move-rest-spec =
@@ -47,6 +50,7 @@ move-rest-spec =
     Inv-loop
     μ-loop
     returns
+    returns-2
     loop-holds
     sub-move-byte
     move-byte-requires
@@ -54,4 +58,4 @@ move-rest-spec =
     loop-less
     loop-again
     same-length
-    returns-2)
+    returns-3)

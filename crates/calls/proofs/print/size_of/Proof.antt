@@ -5,7 +5,7 @@ use borrow.Author.Tests.{ltb-true, le-ltb}
 use native.Mathlib.Omega.{arith}
 use Prim.Native.Nat.{ℕ, suc, _+_, _-_}
 use mathlib.Core.Path.{_≡_, sym, subst}
-use mathlib.Core.Bool.{Bool, true, false}
+use mathlib.Core.Bool.{true, false}
 use lib.Dec.{T}
 use lib.IntN.{ℤ, pos, negsuc, _-ℤ_, natAbs}
 use lib.Signed.{ltZ, nonNeg}
@@ -36,24 +36,32 @@ read z f t = (subst (λ (y : ℤ). T (nonNeg y)) (sym (toZ-ofZ f)) t, fits-natAb
 wide : (z : ℤ) → SFits w32 z → Fits w64 (natAbs (toZ w32 (ofZ w32 z)) + 1)
 wide z f = record { fits = let less = fits-natAbs {w = w32} {w′ = w32} tt (sfits-toZ (fits-ofZ f)) in omega arith }
 
+-- the number as the machine reads it, and its range
+abbrev z : ℤ → ℤ
+z change = toZ w32 (ofZ w32 change)
+
+in-range : {change : ℤ} → SFits w32 change → SFits w32 (z change)
+in-range f = sfits-toZ (fits-ofZ f)
+
 sub-result : tie.Need-sub-result
-sub-result c = below (toZ w32 (ofZ w32 (c .before .args .change))) (c .if1 .taken) (sfits-toZ (fits-ofZ (c .before .fits .change))) .0
+sub-result c = below (z (c .before .args .change)) (c .if1 .taken) (in-range (c .before .fits .change)) .0
 
 cast-result : tie.Need-cast-result
-cast-result c = read (negsuc 0 -ℤ toZ w32 (ofZ w32 (c .before .args .change))) (sub-result c) (below (toZ w32 (ofZ w32 (c .before .args .change))) (c .if1 .taken) (sfits-toZ (fits-ofZ (c .before .fits .change))) .1)
+cast-result c =
+    read (negsuc 0 -ℤ z (c .before .args .change)) (sub-result c)
+    (below (z (c .before .args .change)) (c .if1 .taken) (in-range (c .before .fits .change)) .1)
 
 add-result : tie.Need-add-result
-add-result c = wide (negsuc 0 -ℤ toZ w32 (ofZ w32 (c .before .args .change))) (sub-result c)
+add-result c = wide (negsuc 0 -ℤ z (c .before .args .change)) (sub-result c)
 
 returns : tie.Need-returns
 returns c = search needs
 
 cast-result-2 : tie.Need-cast-result-2
-cast-result-2 c = (above (toZ w32 (ofZ w32 (c .before .args .change))) (c .if1 .left), fits-natAbs {w = w32} {w′ = w64} tt (sfits-toZ (fits-ofZ (c .before .fits .change))))
+cast-result-2 c = (above (z (c .before .args .change)) (c .if1 .left), fits-natAbs {w = w32} {w′ = w64} tt (in-range (c .before .fits .change)))
 
 returns-2 : tie.Need-returns-2
 returns-2 c = search needs
 
 pub size-of-spec : {M : Type 1} → statement M
-size-of-spec =
-    tie.close (tie.spec sub-result cast-result add-result returns cast-result-2 returns-2)
+size-of-spec = tie.close (tie.spec sub-result cast-result add-result returns cast-result-2 returns-2)

@@ -13,6 +13,9 @@ Inv-loop table₀ from to owner i₀ table i = length table ≡ length table₀
 abbrev μ-loop : tie.MeasureT-loop
 μ-loop table₀ from to owner i₀ table i = to - i
 
+returns : tie.Need-returns Inv-loop μ-loop
+returns c = search needs
+
 loop-holds : tie.Need-loop-holds Inv-loop μ-loop
 loop-holds c = search needs
 
@@ -31,8 +34,8 @@ loop-again c = search needs
 same-length : tie.Need-same-length Inv-loop μ-loop
 same-length c = search needs
 
-returns : tie.Need-returns Inv-loop μ-loop
-returns c = search needs
+returns-2 : tie.Need-returns-2 Inv-loop μ-loop
+returns-2 c = search needs
 
 pub fill-spec : {M : Type 1} → statement M
 fill-spec =
@@ -40,10 +43,11 @@ fill-spec =
     (tie.spec
     Inv-loop
     μ-loop
+    returns
     loop-holds
     keep-owner-requires
     add-i
     loop-less
     loop-again
     same-length
-    returns)
+    returns-2)
