@@ -9,7 +9,9 @@ import termios
 import threading
 import time
 
+# seconds for a whole run, and for one answer
 PATIENCE = 120
+PROMPT = 10
 
 
 class Fault(Exception):
@@ -70,9 +72,9 @@ class Process:
 
     def give_alone(self, piece):
         """Writes a piece when all before it has been read, so that it comes by a read of its own."""
-        end = time.monotonic() + PATIENCE
         while struct.unpack("i", fcntl.ioctl(self.given, termios.FIONREAD, b"\0" * 4))[0]:
-            expect(time.monotonic() < end, "the input is not read")
+            if self.child.poll() is not None:
+                return False
         return self.give(piece)
 
     def end_input(self):
@@ -89,7 +91,7 @@ class Process:
         self.feeder.start()
         return self.feeder
 
-    def take(self, count, patience=20):
+    def take(self, count, patience=PROMPT):
         """Exactly so many bytes of output, or what came of them in time."""
         taken, end = b"", time.monotonic() + patience
         while len(taken) < count:
