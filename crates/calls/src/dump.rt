@@ -88,7 +88,7 @@ fn put_list(words: &[u32], out: &mut [u8], at: usize) -> usize {
 }
 
 // Puts the three lines.
-pub fn put_memory(words: &[u32], table: &[u16], out: &mut [u8], at: usize) -> usize {
+pub(crate) fn put_memory(words: &[u32], table: &[u16], out: &mut [u8], at: usize) -> usize {
     let a = put_roster(words, out, at);
     let n = memory::in_use(table, words);
     let b = put_table(&table[0..n], out, a);

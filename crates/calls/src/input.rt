@@ -6,7 +6,7 @@ ghost use Prim.Native.Nat.{_≤_};
 ghost use lib.ListN.{length};
 
 // Where a program stands: the place in the output, how much of the buffer is kept, and whether the input has ended.
-pub struct Stand {
+pub(crate) struct Stand {
     at: usize,
     kept: usize,
     ended: bool,
@@ -122,7 +122,7 @@ fn turn(
 }
 
 // Takes the whole input. A proved loop has to end: it counts its turns down from a number that no run uses up.
-pub fn run(words: &mut [u32], table: &mut [u16], out: &mut [u8], buffer: &mut [u8]) {
+pub(crate) fn run(words: &mut [u32], table: &mut [u16], out: &mut [u8], buffer: &mut [u8]) {
     let mut s = Stand {
         at: 0,
         kept: 0,

@@ -70,7 +70,7 @@ fn keep_list(words: &mut [u32], list: [HostRecord; 300]) {
 }
 
 // Reports on the roster into the list that the words hold.
-pub fn report_on(words: &mut [u32], slots: u32) -> u32 {
+pub(crate) fn report_on(words: &mut [u32], slots: u32) -> u32 {
     let r = memory::roster_of(words);
     let list = list_of(words);
     let n = memory::records_used(words);

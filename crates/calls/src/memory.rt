@@ -4,22 +4,22 @@ ghost use Prim.Native.Nat.{_≤_};
 ghost use lib.ListN.{length};
 
 // Where each part begins behind the host numbers: rates, then numbers, rates and quotas of the report list, and three single words.
-pub const RATES: usize = 256;
+pub(crate) const RATES: usize = 256;
 
-pub const LIST_NUMBERS: usize = 512;
+pub(crate) const LIST_NUMBERS: usize = 512;
 
-pub const LIST_RATES: usize = 812;
+pub(crate) const LIST_RATES: usize = 812;
 
-pub const LIST_QUOTAS: usize = 1_112;
+pub(crate) const LIST_QUOTAS: usize = 1_112;
 
-pub const COUNT: usize = 1_412;
+pub(crate) const COUNT: usize = 1_412;
 
-pub const LENGTH: usize = 1_413;
+pub(crate) const LENGTH: usize = 1_413;
 
-pub const RECORDS: usize = 1_414;
+pub(crate) const RECORDS: usize = 1_414;
 
 // A word, 0 past the end.
-pub fn word(words: &[u32], i: usize) -> u32 {
+pub(crate) fn word(words: &[u32], i: usize) -> u32 {
     if i < words.len() {
         return words[i];
     }
@@ -27,14 +27,14 @@ pub fn word(words: &[u32], i: usize) -> u32 {
 }
 
 // Sets a word, where there is one.
-pub fn keep(words: &mut [u32], i: usize, value: u32) {
+pub(crate) fn keep(words: &mut [u32], i: usize, value: u32) {
     if i < words.len() {
         words[i] = value;
     }
 }
 
 // A host number, 0 past the end.
-pub fn owner(owners: &[u16], i: usize) -> u16 {
+pub(crate) fn owner(owners: &[u16], i: usize) -> u16 {
     if i < owners.len() {
         return owners[i];
     }
@@ -42,14 +42,14 @@ pub fn owner(owners: &[u16], i: usize) -> u16 {
 }
 
 // Sets a host number, where there is one.
-pub fn keep_owner(owners: &mut [u16], i: usize, value: u16) {
+pub(crate) fn keep_owner(owners: &mut [u16], i: usize, value: u16) {
     if i < owners.len() {
         owners[i] = value;
     }
 }
 
 // A number as a host number.
-pub fn narrow(value: u32) -> u16 {
+pub(crate) fn narrow(value: u32) -> u16 {
     if 65_535 < value {
         return 0;
     }
@@ -65,7 +65,7 @@ fn word_of(count: usize) -> u32 {
 }
 
 // How much of the table is in use.
-pub fn in_use(table: &[u16], words: &[u32]) -> usize
+pub(crate) fn in_use(table: &[u16], words: &[u32]) -> usize
     ensures { λ r. ⌜ r ≤ length (now (table .entry)) ⌝ }
 {
     let n = word(words, LENGTH) as usize;
@@ -76,7 +76,7 @@ pub fn in_use(table: &[u16], words: &[u32]) -> usize
 }
 
 // How many records are in use.
-pub fn records_used(words: &[u32]) -> usize
+pub(crate) fn records_used(words: &[u32]) -> usize
     ensures { λ r. ⌜ r ≤ 300 ⌝ }
 {
     let n = word(words, RECORDS) as usize;
@@ -107,7 +107,7 @@ fn keep_places(words: &mut [u32], hosts: &[u16], rates: &[u32]) {
 }
 
 // The roster by value.
-pub fn roster_of(words: &[u32]) -> Roster {
+pub(crate) fn roster_of(words: &[u32]) -> Roster {
     let mut hosts = [0u16; 256];
     let mut rates = [0u32; 256];
     read_places(words, &mut hosts, &mut rates);
@@ -120,7 +120,7 @@ pub fn roster_of(words: &[u32]) -> Roster {
 }
 
 // Keeps a roster that was handed back.
-pub fn keep_roster(words: &mut [u32], r: Roster) {
+pub(crate) fn keep_roster(words: &mut [u32], r: Roster) {
     let hosts = r.hosts;
     let rates = r.rates;
     keep_places(words, &hosts, &rates);

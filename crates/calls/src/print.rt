@@ -2,7 +2,7 @@
 use libc::STDOUT_FILENO;
 
 // Writes out what the output holds.
-pub fn flush(out: &[u8], at: usize) {
+pub(crate) fn flush(out: &[u8], at: usize) {
     if at <= out.len() {
         io::write_all(STDOUT_FILENO, &out[0..at]);
     }
@@ -28,7 +28,7 @@ fn put_byte(out: &mut [u8], at: usize, byte: u8) -> usize {
 }
 
 // Puts a text.
-pub fn put(out: &mut [u8], at: usize, text: &[u8]) -> usize {
+pub(crate) fn put(out: &mut [u8], at: usize, text: &[u8]) -> usize {
     let mut next = at;
     let mut i = 0;
     while i < text.len() {
@@ -39,7 +39,7 @@ pub fn put(out: &mut [u8], at: usize, text: &[u8]) -> usize {
 }
 
 // Puts a text and a number in decimal behind it.
-pub fn put_number(out: &mut [u8], at: usize, text: &[u8], value: u64) -> usize {
+pub(crate) fn put_number(out: &mut [u8], at: usize, text: &[u8], value: u64) -> usize {
     let next = put(out, at, text);
     let mut digits = [0u8; 20];
     let k = io::decimal(value, &mut digits);
@@ -55,7 +55,7 @@ fn size_of(change: i32) -> u64 {
 }
 
 // Puts a text and a signed number behind it.
-pub fn put_change(out: &mut [u8], at: usize, text: &[u8], change: i32) -> usize {
+pub(crate) fn put_change(out: &mut [u8], at: usize, text: &[u8], change: i32) -> usize {
     let next = put(out, at, text);
     if change < 0 {
         return put_number(out, next, b"-", size_of(change));
@@ -64,6 +64,6 @@ pub fn put_change(out: &mut [u8], at: usize, text: &[u8], change: i32) -> usize 
 }
 
 // Puts the end of a line.
-pub fn put_end(out: &mut [u8], at: usize) -> usize {
+pub(crate) fn put_end(out: &mut [u8], at: usize) -> usize {
     put(out, at, b"\n")
 }

@@ -165,7 +165,7 @@ fn call_of(line: &[u8]) -> Call {
 }
 
 // Answers a line that calls a function; any other sets a part of the memory, or is unknown.
-pub fn take_line(
+pub(crate) fn take_line(
     words: &mut [u32],
     table: &mut [u16],
     out: &mut [u8],

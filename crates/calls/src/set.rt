@@ -98,7 +98,7 @@ fn setting_of(line: &[u8]) -> Setting {
 }
 
 // Does what a line sets; nothing where its word is unknown.
-pub fn take_setting(words: &mut [u32], table: &mut [u16], line: &[u8]) {
+pub(crate) fn take_setting(words: &mut [u32], table: &mut [u16], line: &[u8]) {
     let first = number(line, 1);
     match setting_of(line) {
         Setting::Host => set_host(words, line),

@@ -3,7 +3,7 @@ ghost use Prim.Native.Nat.{_≤_};
 ghost use lib.ListN.{length};
 
 // Whether a text begins with a word.
-pub fn begins(text: &[u8], word: &[u8]) -> bool {
+pub(crate) fn begins(text: &[u8], word: &[u8]) -> bool {
     if text.len() < word.len() {
         return false;
     }
@@ -45,7 +45,7 @@ fn start_of(line: &[u8], spaces: usize) -> usize
 }
 
 // The text behind so many spaces.
-pub fn rest_of(line: &[u8], spaces: usize) -> &[u8] {
+pub(crate) fn rest_of(line: &[u8], spaces: usize) -> &[u8] {
     let from = start_of(line, spaces);
     &line[from..]
 }
@@ -81,12 +81,12 @@ fn leading(text: &[u8]) -> u64 {
 }
 
 // The number behind so many spaces.
-pub fn long_number(line: &[u8], spaces: usize) -> u64 {
+pub(crate) fn long_number(line: &[u8], spaces: usize) -> u64 {
     leading(rest_of(line, spaces))
 }
 
 // The number behind so many spaces, 0 where it does not fit.
-pub fn number(line: &[u8], spaces: usize) -> u32 {
+pub(crate) fn number(line: &[u8], spaces: usize) -> u32 {
     let value = long_number(line, spaces);
     if 4_294_967_295 < value {
         return 0;
