@@ -9,7 +9,6 @@ use native.Mathlib.Nat.{sub-zero, zero-add}
 use native.Mathlib.Omega.{arith}
 use borrow.Author.Tests.{le-leb}
 use lib.ListN.{length, drop, length-append}
-use lib.Seq.{drop-drop}
 use Rattle.base.proofs.Tests.{by-test, and-left, and-right, and-both}
 use Rattle.stream.specs.declared.State.{State}
 use Rattle.stream.specs.declared.Said.{Said}

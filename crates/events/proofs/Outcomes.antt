@@ -14,7 +14,7 @@ use Rattle.base.specs.Rows.{Row, lowest, risesFrom}
 use Rattle.base.specs.Sizes.{hostFits, slotsFit}
 use Rattle.base.specs.Tables.{at}
 use Rattle.base.proofs.Answers.{lowest-stop, lowest-go}
-use Rattle.base.proofs.Tests.{by-test, never}
+use Rattle.base.proofs.Tests.{by-test, or-left, or-right}
 use Rattle.roster.specs.declared.Roster.{Roster}
 use Rattle.roster.specs.Roster.{valid}
 use Rattle.roster.proofs.Changes.{added-valid, dropped-valid, rerated-valid}
@@ -142,16 +142,6 @@ pub record Passed (r : Roster) (S : ℕ) (e : Event) (asked : ℕ) : Type 0 wher
   pub valid-roster : valid r ≡ true
   pub named-well : hostFits (named e) ≡ true
   pub asked-well : hostFits asked ≡ true
-  pub change-well : lowest (changeRows r e) ≡ 0
-
--- neither of two tests that do not both fail to hold
-or-left : (a b : Bool) → (a || b) ≡ false → a ≡ false
-or-left true b h = h
-or-left false b h = refl
-
-or-right : (a b : Bool) → (a || b) ≡ false → b ≡ false
-or-right true b h = never true refl h
-or-right false b h = h
 
 module _ (r : Roster) (S : ℕ) (e : Event) (asked : ℕ) where
   pub forecast-passed : forecastAnswer r S e asked ≡ 0 → Passed r S e asked
@@ -165,7 +155,6 @@ module _ (r : Roster) (S : ℕ) (e : Event) (asked : ℕ) where
         valid-roster = not-false _ (two .0);
         named-well = not-false _ (or-left (badHost e) (not (hostFits asked)) (four .0));
         asked-well = not-false _ (or-right (badHost e) (not (hostFits asked)) (four .0));
-        change-well = four .1;
       }
 
   abbrev foretells : ℕ → ℤ → Foreseen

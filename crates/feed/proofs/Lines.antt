@@ -1,7 +1,7 @@
 -- Laws of the next whole line: its end found byte by byte, and the meaning with the line taken.
 -- Assumes nothing.
 use mathlib.Core.Path.{_≡_, refl, sym, ap, _∙_}
-use mathlib.Core.Bool.{Bool, true, false, _||_, not, and-false, or-true, true≢false}
+use mathlib.Core.Bool.{true, false, not, and-false, or-true}
 use mathlib.Core.List.{List, [], _∷_, _++_, append-nil, append-assoc}
 use Prim.Native.Nat.{ℕ, suc, _+_, _-_, _≤_, _<_, min}
 use native.Mathlib.Nat.{not-suc-le-zero, le-of-suc-le-suc}
@@ -12,7 +12,7 @@ use lib.Dec.{eqb, ltb, leb}
 use lib.ListN.{length, take, drop, length-append, length-drop, drop-of-length-le}
 use lib.Seq.{drop-cons, drop-drop, take-length}
 use Rattle.base.specs.Tables.{at}
-use Rattle.base.proofs.Tests.{by-test, never, and-left, and-right}
+use Rattle.base.proofs.Tests.{by-test, never, and-left, and-right, or-left, or-right}
 use Rattle.lines.specs.declared.Read.the-variants.{Malformed}
 use Rattle.lines.proofs.Promised.{long-malformed}
 use Rattle.stream.specs.declared.State.{State}
@@ -63,17 +63,12 @@ line-there input from end l e w =
     (λ t. let early = ltb-true end (length input) t in rw (lt-ltb (beforeTen (drop from input)) (length (drop from input)) (omega arith)))
     (λ f. let long = leb-false (length input - from) 8192 (rw f at w) in rw (lt-ltb 8192 (length (drop from input)) (omega arith)) (or-true (ltb (beforeTen (drop from input)) (length (drop from input)))))
 
-neither : (a b : Bool) → (a || b) ≡ false → (a ≡ false) × (b ≡ false)
-neither true b f = absurd (true≢false f)
-neither false b f = (refl, f)
-
 pub piece-left : PieceLeft
 piece-left input from f =
     let bytes = drop from input in
-    let fails = neither (ltb (beforeTen bytes) (length bytes)) (ltb 8192 (length bytes)) f in
-    let none = ltb-false (beforeTen bytes) (length bytes) (fails .0) in
+    let none = ltb-false (beforeTen bytes) (length bytes) (or-left (ltb (beforeTen bytes) (length bytes)) (ltb 8192 (length bytes)) f) in
     let most = ten-within bytes in
-    (omega arith, ltb-false 8192 (length bytes) (fails .1))
+    (omega arith, ltb-false 8192 (length bytes) (or-right (ltb (beforeTen bytes) (length bytes)) (ltb 8192 (length bytes)) f))
 
 -- the line as the code cuts it
 pub line-cut : (input : List ℕ) (from end : ℕ) → end ≡ from + beforeTen (drop from input) → take (end - from) (drop from input) ≡ lineAt input from

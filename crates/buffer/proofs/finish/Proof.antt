@@ -1,7 +1,7 @@
 -- `buffer::finish` meets its contract: what the end of the input says is put at the front of the output.
 -- Assumes nothing.
 use borrow.Author.Needs.{needs}
-use mathlib.Core.Path.{_≡_, ap, _∙_}
+use mathlib.Core.Path.{ap, _∙_}
 use lib.ListN.{length}
 use Rattle.printing.specs.Wrote.{saidAt, placeAfter}
 use Rattle.buffer.proofs.finish.Statement.{statement}

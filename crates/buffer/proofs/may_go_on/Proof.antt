@@ -1,7 +1,6 @@
 -- `buffer::may_go_on` meets its contract: its tests are those of the definition, in their order.
 -- Assumes nothing.
 use borrow.Author.Needs.{needs}
-use mathlib.Core.Path.{_≡_}
 use Rattle.buffer.proofs.may_go_on.Statement.{statement}
 use Rattle.buffer.proofs.may_go_on.Tie as tie
 

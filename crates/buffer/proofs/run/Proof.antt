@@ -1,9 +1,8 @@
 -- `buffer::run` meets its contract: the loop's invariant: the text of the lines taken stands at the front of the output, and the lines left lead to the same end.
 -- Assumes nothing.
 use borrow.Author.Needs.{needs}
-use native.Mathlib.Omega.{arith}
 use Prim.Native.Nat.{_-_}
-use mathlib.Core.Path.{_≡_, sym, _∙_}
+use mathlib.Core.Path.{sym, _∙_}
 use lib.ListN.{length}
 use Rattle.buffer.proofs.Runs.{Kept, kept-first, kept-size, kept-full, kept-stays, kept-less, kept-next}
 use Rattle.buffer.proofs.run.Statement.{statement}
