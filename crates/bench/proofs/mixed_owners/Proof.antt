@@ -1,0 +1,57 @@
+-- `bench::mixed_owners` is safe and ends: the loop counts up to its bound.
+-- Assumes nothing.
+use borrow.Author.Needs.{needs}
+use native.Mathlib.Omega.{arith}
+use Prim.Native.Nat.{_-_}
+use lib.ListN.{length}
+use Rattle.bench.proofs.mixed_owners.Statement.{statement}
+use Rattle.bench.proofs.mixed_owners.Tie as tie
+
+abbrev Inv-loop : tie.InvT-loop
+Inv-loop sum table mix₀ i₀ mix i = Unit {0}
+
+abbrev μ-loop : tie.MeasureT-loop
+μ-loop sum table mix₀ i₀ mix i = length table - i
+
+loop-holds : tie.Need-loop-holds Inv-loop μ-loop
+loop-holds c = search needs
+
+mul-wide : tie.Need-mul-wide Inv-loop μ-loop
+mul-wide c = search needs
+
+shared-slice-read-wide : tie.Need-shared-slice-read-wide Inv-loop μ-loop
+shared-slice-read-wide c = search needs
+
+wide-requires : tie.Need-wide-requires Inv-loop μ-loop
+wide-requires c κs = search needs
+
+mixed-requires : tie.Need-mixed-requires Inv-loop μ-loop
+mixed-requires c κs = search needs
+
+add-i : tie.Need-add-i Inv-loop μ-loop
+add-i c = search needs
+
+loop-less : tie.Need-loop-less Inv-loop μ-loop
+loop-less c = omega arith
+
+loop-again : tie.Need-loop-again Inv-loop μ-loop
+loop-again c = search needs
+
+returns : tie.Need-returns Inv-loop μ-loop
+returns c = search needs
+
+pub mixed-owners-spec : {M : Type 1} → statement M
+mixed-owners-spec =
+    tie.close
+    (tie.spec
+    Inv-loop
+    μ-loop
+    loop-holds
+    mul-wide
+    shared-slice-read-wide
+    wide-requires
+    mixed-requires
+    add-i
+    loop-less
+    loop-again
+    returns)
