@@ -7,21 +7,27 @@ use mathlib.Core.Logic.{_⊎_, ⊎-elim}
 use Prim.Native.Nat.{ℕ, zero, suc, _+_, _-_, _≤_, _<_}
 use native.Mathlib.Nat.{sub-zero, zero-add}
 use native.Mathlib.Omega.{arith}
-use borrow.Author.Tests.{le-leb}
+use borrow.Author.Tests.{le-leb, not-true}
 use lib.ListN.{length, drop, length-append}
 use Rattle.base.proofs.Tests.{by-test, and-left, and-right, and-both}
 use Rattle.stream.specs.declared.State.{State}
 use Rattle.stream.specs.declared.Said.{Said}
+use Rattle.stream.specs.Steps.{nextNumber}
+use Rattle.stream.specs.Steps as steps
 use Rattle.stream.specs.Text.{textOf}
 use Rattle.stream.specs.Meaning.{atEnd, meaning, printed}
 use Rattle.stream.proofs.Meanings.{stopped-silent}
 use Rattle.feed.specs.declared.Fed.{Fed}
 use Rattle.feed.specs.Feed.{hasLine, fed, ownersFed}
+use Rattle.feed.specs.declared.Passing.{Passing}
+use Rattle.feed.specs.Passing.{passesBy}
+use Rattle.feed.proofs.Passes.{passed-there, passed-fed, passed-owners}
 use Rattle.feed.proofs.Lines.{none-past, fed-none, owners-none, next-goes, nothing-left, piece-left, end-prints}
 use Rattle.printing.specs.Wrote.{wrote, roomFor, saidAt, placeAfter}
 use Rattle.printing.proofs.Texts.{room-is, length-text, wrote-nothing, length-wrote, wrote-behind}
 use Rattle.buffer.specs.declared.Ran.{Ran}
 use Rattle.buffer.specs.Run.{Turn, mayGoOn, goesOn, oneMore, upTo, begun, run, ran}
+use Rattle.buffer.specs.Passed.{withPassed}
 use Rattle.buffer.specs.Reads.{Served, served, unserved, afterReads, allRead}
 use Rattle.buffer.specs.Laws.{RunGoes, RunEnds, RunWithin, AnyReads, AllPrinted, RanFixed}
 
@@ -276,3 +282,27 @@ module _ {owners₀ input out₀ : List ℕ} {s₀ : State} {owners out : List �
       → owners′ ≡ ownersFed s owners input next → length owners′ ≡ length owners₀ → printed′ ≡ placeAfter (f .said) (length out) printed → out′ ≡ saidAt (f .said) out printed
       → Kept owners₀ input out₀ s₀ owners′ out′ (f .state) (f .next) printed′
   kept-next f owners′ out′ printed′ m e other o lent p q = rw (p, q, e, o) (kept-line m (moves f e other) (ap length (sym o) ∙ lent))
+
+  -- a line taken with no roster at hand is a line more
+  going : mayGoOn (s .stopped) (length out) printed ≡ true → s .stopped ≡ false
+  going m = not-true (s .stopped) (and-left (not (s .stopped)) (roomFor (length out) printed) m)
+
+  pub passed-less : (p : Passing) → p ≡ passesBy (s .due) (nextNumber (s .lines)) (s .slots) owners input next → mayGoOn (s .stopped) (length out) printed ≡ true → p .taken ≡ true
+      → length input - p .next < length input - next
+  passed-less p e m t =
+      let taken = sym (ap (λ x. x .taken) e) ∙ t in
+      let on = nothing-left s owners input next (passed-there s owners input next taken) in
+      let here = ap (λ x. x .next) e ∙ ap (λ f. f .next) (passed-fed s owners input next (going m) taken) in
+      omega arith
+
+  pub kept-passed : (p : Passing) (out′ : List ℕ) (printed′ : ℕ) → p ≡ passesBy (s .due) (nextNumber (s .lines)) (s .slots) owners input next → mayGoOn (s .stopped) (length out) printed ≡ true → p .taken ≡ true
+      → printed′ ≡ placeAfter (p .said) (length out) printed → out′ ≡ saidAt (p .said) out printed
+      → Kept owners₀ input out₀ s₀ owners out′ (withPassed s (p .due) (nextNumber (s .lines))) (p .next) printed′
+  kept-passed p out′ printed′ e m t pl pr =
+      let taken = sym (ap (λ x. x .taken) e) ∙ t in
+      let on = going m in
+      let f : Fed = record { state = steps.goesOn s (p .due); said = p .said; next = p .next } in
+      let is : f ≡ fed s owners input next = ap (λ x. record { state = steps.goesOn s (x .due); said = x .said; next = x .next }) e ∙ passed-fed s owners input next on taken in
+      let less = passed-less p e m t in
+      let next-kept = kept-next f owners out′ printed′ m is (λ same. absurd (let here : p .next ≡ next = same in omega arith)) (passed-owners s owners input next on taken) (kept .lent) pl pr in
+      rw on next-kept

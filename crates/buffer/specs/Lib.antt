@@ -1,3 +1,4 @@
 pub mod Run
+pub mod Passed
 pub mod Reads
 pub mod Laws

@@ -1,10 +1,12 @@
 // Every line that a buffer holds, taken one after the other, and what they print.
+use lines::Due;
 use stream::State;
 ghost use mathlib.Core.Path.{_≡_};
 ghost use lib.ListN.{length, drop};
 ghost use Rattle.printing.specs.Wrote.{wrote, saidAt, placeAfter};
 ghost use Rattle.stream.specs.Meaning.{atEnd};
 ghost use Rattle.buffer.specs.Run.{mayGoOn, run, ran};
+ghost use Rattle.buffer.specs.Passed.{withPassed};
 ghost use Rattle.buffer.specs.Laws.{RunGoes, RunEnds, RunWithin, AnyReads, AllPrinted, RanFixed};
 
 // What running a buffer leaves: the state, the place of the next line, and how long the text is that was put into the output.
@@ -24,6 +26,31 @@ fn may_go_on(stopped: bool, size: usize, printed: usize) -> bool
     printing::has_room(size, printed)
 }
 
+// The state with what the lines passed since have changed. They are taken without it, since it is large to copy.
+fn with_passed(state: State, due: Due, lines: u64) -> State
+    ensures { λ r. ⌜ r ≡ withPassed state due lines ⌝ }
+{
+    let roster = state.roster;
+    State {
+        due,
+        slots: state.slots,
+        roster,
+        lines,
+        stopped: state.stopped,
+    }
+}
+
+// What is left when no line more is taken.
+fn left(state: State, due: Due, lines: u64, next: usize, printed: usize) -> Ran
+    ensures { λ r. ⌜ r ≡ record { state = withPassed state due lines; next = next; printed = printed } ⌝ }
+{
+    Ran {
+        state: with_passed(state, due, lines),
+        next,
+        printed,
+    }
+}
+
 // Takes every line of a buffer as far as the output has room, and puts what they say into the output from its front.
 pub fn run(start: State, owners: &mut [u16], input: &[u8], out: &mut [u8]) -> Ran
     ensures reply { λ r. ⌜ r ≡ ran (run start (now (owners .entry)) (now (input .entry)) (length (now (out .entry)))) ⌝ }
@@ -31,28 +58,36 @@ pub fn run(start: State, owners: &mut [u16], input: &[u8], out: &mut [u8]) -> Ra
     ensures text { λ r. ⌜ now (out .exit) ≡ wrote (now (out .entry)) 0 (run start (now (owners .entry)) (now (input .entry)) (length (now (out .entry))) .text) ⌝ }
 {
     let mut state = start;
+    let mut due = start.due;
+    let mut lines = start.lines;
     let mut next = 0;
     let mut printed = 0;
     while may_go_on(state.stopped, out.len(), printed) {
-        let fed = feed::next_line(state, owners, input, next);
+        let number = stream::next_number(lines);
+        let passing = feed::pass_next(due, number, state.slots, owners, input, next);
+        if passing.taken {
+            let told = passing.said;
+            printed = printing::put_said(told, out, printed);
+            let due_next = passing.due;
+            due = due_next;
+            lines = number;
+            next = passing.next;
+            continue;
+        }
+        let fed = feed::next_line(with_passed(state, due, lines), owners, input, next);
         if fed.next == next {
-            return Ran {
-                state,
-                next,
-                printed,
-            };
+            return left(state, due, lines, next, printed);
         }
         let said = fed.said;
         printed = printing::put_said(said, out, printed);
         let after = fed.state;
         state = after;
+        let due_after = after.due;
+        due = due_after;
+        lines = after.lines;
         next = fed.next;
     }
-    Ran {
-        state,
-        next,
-        printed,
-    }
+    left(state, due, lines, next, printed)
 }
 
 // Moves the bytes from a place on to the front of a buffer, and answers how many they are.

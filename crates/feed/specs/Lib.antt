@@ -1,2 +1,3 @@
 pub mod Feed
+pub mod Passing
 pub mod Laws

@@ -8,11 +8,20 @@ ghost use lib.ListN.{length, drop};
 ghost use Rattle.stream.specs.Steps.{nextNumber};
 ghost use Rattle.stream.specs.Meaning.{mayBegin, atEnd};
 ghost use Rattle.feed.specs.Feed as feed;
+ghost use Rattle.feed.specs.Passing as passing;
 ghost use Rattle.feed.specs.Laws.{NextGoes, NothingLeft, PieceLeft, LongPiece, EndPrints, FedFixed, EndFixed};
 
 // What the next line leaves: the state, what is printed, and the place behind it; the same place where only a piece of a line is left.
 pub struct Fed {
     pub state: State,
+    pub said: Said,
+    pub next: usize,
+}
+
+// What the next line leaves that needs no roster: whether there is one, the line due after it, what is printed, and the place behind it.
+pub struct Passing {
+    pub taken: bool,
+    pub due: Due,
     pub said: Said,
     pub next: usize,
 }
@@ -81,6 +90,47 @@ pub fn next_line(state: State, owners: &mut [u16], input: &[u8], from: usize) ->
     let said = taken.said;
     Fed {
         state: after,
+        said,
+        next: behind(end, input.len()),
+    }
+}
+
+// No line passed.
+fn none_passed(due: Due, from: usize) -> Passing
+    ensures { λ r. ⌜ r ≡ passing.noneBy due from ⌝ }
+{
+    Passing {
+        taken: false,
+        due,
+        said: Said::Nothing,
+        next: from,
+    }
+}
+
+// Takes the line that begins at a place of the input with no roster at hand, if it is a whole one that needs none.
+pub fn pass_next(
+    due: Due,
+    number: u64,
+    slots: u32,
+    owners: &[u16],
+    input: &[u8],
+    from: usize,
+) -> Passing
+    ensures { λ r. ⌜ r ≡ passing.passesBy due number slots (now (owners .entry)) (now (input .entry)) from ⌝ }
+{
+    if input.len() <= from {
+        return none_passed(due, from);
+    }
+    let end = line_end(input, from);
+    if waits(input.len(), from, end) {
+        return none_passed(due, from);
+    }
+    let passed = stream::pass_line(due, number, slots, owners, &input[from..end]);
+    let after = passed.due;
+    let said = passed.said;
+    Passing {
+        taken: passed.taken,
+        due: after,
         said,
         next: behind(end, input.len()),
     }

@@ -1,4 +1,5 @@
 pub mod Steps
+pub mod Passing
 pub mod Text
 pub mod Meaning
 pub mod Samples

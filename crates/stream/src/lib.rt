@@ -14,6 +14,7 @@ ghost use Rattle.events.specs.Events.{replyOf, tableAfter};
 ghost use Rattle.find.specs.Reply.{found};
 ghost use Rattle.lines.specs.Lines.{keyOf};
 ghost use Rattle.stream.specs.Steps as steps;
+ghost use Rattle.stream.specs.Passing as passing;
 ghost use Rattle.stream.specs.Laws.{StoppedSilent, TakenFixed, AnswerFirst, DecimalReads};
 ghost use Rattle.stream.specs.Samples.{Empty, CountOnly, LeadingZero, NoSlots, MissingHost, LastWithout10, CommentInRecord};
 
@@ -37,6 +38,13 @@ pub enum Said {
 // What a line leaves: the state after it, and what is printed.
 pub struct Taken {
     pub state: State,
+    pub said: Said,
+}
+
+// What a line leaves that needs no roster: whether it is one, the line due after it, and what is printed.
+pub struct Passed {
+    pub taken: bool,
+    pub due: Due,
     pub said: Said,
 }
 
@@ -214,6 +222,53 @@ fn answered(state: State, whole: Record, owners: &mut [u16], line: &[u8]) -> Tak
         return asked(state, whole, owners, line);
     };
     changed_by(state, event, owners)
+}
+
+// A line that may need the roster.
+fn needs_roster() -> Passed
+    ensures { λ r. ⌜ r ≡ passing.notPassed ⌝ }
+{
+    Passed {
+        taken: false,
+        due: Due::Opening,
+        said: Said::Nothing,
+    }
+}
+
+// A find needs the owners only.
+fn passed_find(whole: Record, slots: u32, owners: &[u16], line: &[u8]) -> Passed
+    ensures { λ r. ⌜ r ≡ passing.passedFind slots (now (owners .entry)) (now (line .entry)) whole ⌝ }
+{
+    let Record::Find = whole else {
+        return needs_roster();
+    };
+    let f = look(owners, slots, lines::key(line));
+    Passed {
+        taken: true,
+        due: Due::Opening,
+        said: Said::Owner {
+            answer: f.answer,
+            slot: f.slot,
+            host: f.host,
+        },
+    }
+}
+
+// Takes a line with no roster at hand, which would have to be copied, if the line needs none: a part of a record, or a find.
+pub fn pass_line(due: Due, number: u64, slots: u32, owners: &[u16], line: &[u8]) -> Passed
+    ensures { λ r. ⌜ r ≡ passing.passes due number slots (now (owners .entry)) (now (line .entry)) ⌝ }
+{
+    let read = lines::read_line(due, number, line);
+    match read {
+        Read::Count(_) => needs_roster(),
+        Read::Part(next) => Passed {
+            taken: true,
+            due: next,
+            said: Said::Nothing,
+        },
+        Read::Whole(whole) => passed_find(whole, slots, owners, line),
+        Read::Malformed { line: _ } => needs_roster(),
+    }
 }
 
 // What a whole line does to the state and to the lent owners, and what is printed.
