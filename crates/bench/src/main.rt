@@ -81,6 +81,7 @@ fn mixed_owners(sum: u32, table: &[u16]) -> u32 {
     mix
 }
 
+// An owner as a number; a cast of an element would ask for its bound.
 fn wide(owner: u16) -> u32 {
     owner as u32
 }
