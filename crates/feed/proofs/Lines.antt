@@ -1,7 +1,7 @@
 -- Laws of the next whole line: its end found byte by byte, and the meaning with the line taken.
 -- Assumes nothing.
 use mathlib.Core.Path.{_≡_, refl, sym, ap, _∙_}
-use mathlib.Core.Bool.{true, false, not, and-false, or-true}
+use mathlib.Core.Bool.{Bool, true, false, not, and-false, or-true}
 use mathlib.Core.List.{List, [], _∷_, _++_, append-nil, append-assoc}
 use Prim.Native.Nat.{ℕ, suc, _+_, _-_, _≤_, _<_, min}
 use native.Mathlib.Nat.{not-suc-le-zero, le-of-suc-le-suc}
@@ -22,7 +22,8 @@ use Rattle.stream.specs.Text.{textOf}
 use Rattle.stream.specs.Meaning.{mayBegin, atEnd, meaning}
 use Rattle.stream.proofs.Turns.{turn-says}
 use Rattle.stream.proofs.Meanings.{stopped-takes, stopped-silent}
-use Rattle.feed.specs.Feed.{beforeTen, hasLine, lineAt, waits, nothing, fed, ownersFed}
+use Rattle.feed.specs.declared.Span.{Span}
+use Rattle.feed.specs.Feed.{beforeTen, hasLine, lineAt, waits, spanOf, nothing, fed, ownersFed}
 use Rattle.feed.specs.Laws.{NextGoes, NothingLeft, PieceLeft, LongPiece, EndPrints, FedFixed, EndFixed}
 
 -- the end of a line ------------------------------------------------------------------------
@@ -69,6 +70,33 @@ piece-left input from f =
     let none = ltb-false (beforeTen bytes) (length bytes) (or-left (ltb (beforeTen bytes) (length bytes)) (ltb 8192 (length bytes)) f) in
     let most = ten-within bytes in
     (omega arith, ltb-false 8192 (length bytes) (or-right (ltb (beforeTen bytes) (length bytes)) (ltb 8192 (length bytes)) f))
+
+-- where a line stands -----------------------------------------------------------------------
+
+pub span-past : (input : List ℕ) (from : ℕ) → length input ≤ from → record { there = false; end = from; next = length input } ≡ spanOf input from
+span-past input from l =
+    let none = ten-none input from l in
+    let behind : min (from + beforeTen (drop from input) + 1) (length input) ≡ length input = omega arith in
+    let here : from + beforeTen (drop from input) ≡ from = omega arith in
+    sym (rw (none-past input from l, behind, here))
+
+pub span-here : (input : List ℕ) (from end next : ℕ) (waiting : Bool) → from ≤ length input → end ≡ from + beforeTen (drop from input) → waiting ≡ waits (length input) from end
+    → next ≡ min (end + 1) (length input) → record { there = not waiting; end = end; next = next } ≡ spanOf input from
+span-here input from end next waiting l e w n =
+    let there : not (waits (length input) from end) ≡ hasLine input from =
+    by-test (waits (length input) from end)
+    (λ t. rw (t, none-waits input from end l e t))
+    (λ f. rw (f, line-there input from end l e f)) in
+    rw (n, w, there, e)
+
+-- a line that can be taken stands within the buffer
+pub span-within : (x : Span) (input : List ℕ) (from : ℕ) → x ≡ spanOf input from → x .there ≡ true → (from ≤ x .end) × (x .end ≤ length input)
+span-within x input from is t =
+    let size = length-drop from input in
+    let most = ten-within (drop from input) in
+    let end = ap (λ s. s .end) is in
+    let within : from ≤ length input = by-contra from (length input) (λ w. never (x .there) t (ap (λ s. s .there) is ∙ none-past input from (omega arith))) in
+    (omega arith, omega arith)
 
 -- the line as the code cuts it
 pub line-cut : (input : List ℕ) (from end : ℕ) → end ≡ from + beforeTen (drop from input) → take (end - from) (drop from input) ≡ lineAt input from

@@ -8,6 +8,7 @@ use lib.ListN.{length, take, drop}
 use Rattle.stream.specs.declared.State.{State}
 use Rattle.stream.specs.declared.Said.the-variants.{Nothing}
 use Rattle.stream.specs.Steps.{takes, ownersAfter}
+use Rattle.feed.specs.declared.Span.{Span}
 use Rattle.feed.specs.declared.Fed.{Fed}
 
 -- how many bytes stand before the first byte 10, all where there is none
@@ -26,6 +27,10 @@ lineAt input from = take (beforeTen (drop from input)) (drop from input)
 -- a line that ends at a place, or behind the last byte, waits for more input: not whole, and not above 8,192 bytes
 abbrev pub waits : ℕ → ℕ → ℕ → Bool
 waits size from end = not (ltb end size) && leb (size - from) 8192
+
+-- where the line that begins at a place stands: whether it can be taken, its end, and the place behind it
+abbrev pub spanOf : List ℕ → ℕ → Span
+spanOf input from = record { there = hasLine input from; end = from + beforeTen (drop from input); next = min (from + beforeTen (drop from input) + 1) (length input) }
 
 -- nothing taken
 abbrev pub nothing : State → ℕ → Fed

@@ -62,6 +62,32 @@ fn behind(end: usize, size: usize) -> usize
     size
 }
 
+// Where the line that begins at a place stands in a buffer: whether it can be taken, its end, and the place behind it.
+struct Span {
+    there: bool,
+    end: usize,
+    next: usize,
+}
+
+// The line that begins at a place of the input: there if it is whole, or too long already.
+fn span_of(input: &[u8], from: usize) -> Span
+    ensures { λ r. ⌜ r ≡ feed.spanOf (now (input .entry)) from ⌝ }
+{
+    if input.len() <= from {
+        return Span {
+            there: false,
+            end: from,
+            next: input.len(),
+        };
+    }
+    let end = line_end(input, from);
+    Span {
+        there: !waits(input.len(), from, end),
+        end,
+        next: behind(end, input.len()),
+    }
+}
+
 // Nothing taken.
 fn none_taken(state: State, from: usize) -> Fed
     ensures { λ r. ⌜ r ≡ feed.nothing state from ⌝ }
@@ -78,20 +104,18 @@ pub fn next_line(state: State, owners: &mut [u16], input: &[u8], from: usize) ->
     ensures reply { λ r. ⌜ r ≡ feed.fed state (now (owners .entry)) (now (input .entry)) from ⌝ }
     ensures table { λ r. ⌜ now (owners .exit) ≡ feed.ownersFed state (now (owners .entry)) (now (input .entry)) from ⌝ }
 {
-    if input.len() <= from {
+    let span = span_of(input, from);
+    if !span.there {
         return none_taken(state, from);
     }
-    let end = line_end(input, from);
-    if waits(input.len(), from, end) {
-        return none_taken(state, from);
-    }
+    let end = span.end;
     let taken = stream::take_line(state, owners, &input[from..end]);
     let after = taken.state;
     let said = taken.said;
     Fed {
         state: after,
         said,
-        next: behind(end, input.len()),
+        next: span.next,
     }
 }
 
@@ -118,13 +142,11 @@ pub fn pass_next(
 ) -> Passing
     ensures { λ r. ⌜ r ≡ passing.passesBy due number slots (now (owners .entry)) (now (input .entry)) from ⌝ }
 {
-    if input.len() <= from {
+    let span = span_of(input, from);
+    if !span.there {
         return none_passed(due, from);
     }
-    let end = line_end(input, from);
-    if waits(input.len(), from, end) {
-        return none_passed(due, from);
-    }
+    let end = span.end;
     let passed = stream::pass_line(due, number, slots, owners, &input[from..end]);
     let after = passed.due;
     let said = passed.said;
@@ -132,7 +154,7 @@ pub fn pass_next(
         taken: passed.taken,
         due: after,
         said,
-        next: behind(end, input.len()),
+        next: span.next,
     }
 }
 
