@@ -15,6 +15,7 @@ use Rattle.feed.specs.declared.Fed.{Fed}
 use Rattle.feed.specs.declared.Passing.{Passing}
 use Rattle.feed.specs.Feed.{beforeTen, hasLine, lineAt, fed, ownersFed}
 use Rattle.feed.specs.Passing.{noneBy, passesBy}
+use Rattle.feed.specs.Laws.{PassedFed, PassingFixed}
 use Rattle.feed.proofs.Lines.{fed-line, owners-line}
 
 pub by-none : (due : Due) (number slots : ℕ) (owners input : List ℕ) (from : ℕ) → hasLine input from ≡ false → passesBy due number slots owners input from ≡ noneBy due from
@@ -56,3 +57,11 @@ module _ (s : State) (owners input : List ℕ) (from : ℕ) where
       let there = passed-there t in
       let is = by-line (s .due) (nextNumber (s .lines)) (s .slots) owners input from there in
       sym (owners-line s owners input from there ∙ passed-takes s owners (lineAt input from) on (sym (ap (λ p. p .taken) is) ∙ t) .1)
+
+pub passed-is-fed : PassedFed
+passed-is-fed s owners input from p e on t =
+    let taken = sym (ap (λ x. x .taken) e) ∙ t in
+    (ap (λ x. record { state = goesOn s (x .due); said = x .said; next = x .next }) e ∙ passed-fed s owners input from on taken, passed-owners s owners input from on taken)
+
+pub passing-fixed : PassingFixed
+passing-fixed due number slots owners input from x y p q = p ∙ sym q

@@ -8,10 +8,13 @@ use lib.ListN.{length, drop}
 use Rattle.stream.specs.declared.State.{State}
 use Rattle.stream.specs.declared.Said.{Said}
 use Rattle.stream.specs.declared.Said.the-variants.{Wrong}
-use Rattle.stream.specs.Steps.{nextNumber}
+use Rattle.stream.specs.Steps.{nextNumber, goesOn}
+use Rattle.lines.specs.declared.Due.{Due}
 use Rattle.stream.specs.Text.{textOf}
 use Rattle.stream.specs.Meaning.{atEnd, meaning}
 use Rattle.feed.specs.declared.Fed.{Fed}
+use Rattle.feed.specs.declared.Passing.{Passing}
+use Rattle.feed.specs.Passing.{passesBy}
 use Rattle.feed.specs.Feed.{beforeTen, hasLine, fed, ownersFed}
 
 -- whatever comes behind the buffer, the meaning is what the next line prints and then the meaning from the state after it
@@ -46,3 +49,13 @@ FedFixed =
 
 abbrev pub EndFixed : Type 0
 EndFixed = (s : State) (piece : List ℕ) (x y : Said) → x ≡ atEnd s piece → y ≡ atEnd s piece → x ≡ y
+
+-- a next line taken with no roster at hand leaves what feeding it leaves, and the owners as they were
+abbrev pub PassedFed : Type 0
+PassedFed =
+    (s : State) (owners input : List ℕ) (from : ℕ) (p : Passing) → p ≡ passesBy (s .due) (nextNumber (s .lines)) (s .slots) owners input from → s .stopped ≡ false → p .taken ≡ true →
+    (record { state = goesOn s (p .due); said = p .said; next = p .next } ≡ fed s owners input from) × (owners ≡ ownersFed s owners input from)
+
+abbrev pub PassingFixed : Type 0
+PassingFixed =
+    (due : Due) (number slots : ℕ) (owners input : List ℕ) (from : ℕ) (x y : Passing) → x ≡ passesBy due number slots owners input from → y ≡ passesBy due number slots owners input from → x ≡ y

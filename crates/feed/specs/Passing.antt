@@ -1,4 +1,4 @@
--- A helper notion: the next line of a buffer taken with no roster at hand, where it needs none.
+-- The next line of a buffer taken with no roster at hand, where it needs none. `PassedFed` says that it leaves what `fed` leaves.
 -- Assumes nothing.
 use mathlib.Core.Bool.{false, cond}
 use mathlib.Core.List.{List}

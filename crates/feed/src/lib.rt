@@ -9,7 +9,7 @@ ghost use Rattle.stream.specs.Steps.{nextNumber};
 ghost use Rattle.stream.specs.Meaning.{mayBegin, atEnd};
 ghost use Rattle.feed.specs.Feed as feed;
 ghost use Rattle.feed.specs.Passing as passing;
-ghost use Rattle.feed.specs.Laws.{NextGoes, NothingLeft, PieceLeft, LongPiece, EndPrints, FedFixed, EndFixed};
+ghost use Rattle.feed.specs.Laws.{NextGoes, NothingLeft, PieceLeft, LongPiece, EndPrints, FedFixed, EndFixed, PassedFed, PassingFixed};
 
 // What the next line leaves: the state, what is printed, and the place behind it; the same place where only a piece of a line is left.
 pub struct Fed {
@@ -204,4 +204,5 @@ pub fn end_of_input(state: State, piece: &[u8]) -> Said
 pub fn promises()
     ensures laws { λ _. ⌜ NextGoes × NothingLeft × PieceLeft × LongPiece × EndPrints ⌝ }
     ensures fixed { λ _. ⌜ FedFixed × EndFixed ⌝ }
+    ensures passed { λ _. ⌜ PassedFed × PassingFixed ⌝ }
 {}

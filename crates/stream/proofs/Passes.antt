@@ -18,6 +18,7 @@ use Rattle.lines.proofs.Read as reads
 use Rattle.stream.specs.declared.State.{State}
 use Rattle.stream.specs.Steps.{nextNumber, goesOn, does, ownersDone, takes, ownersAfter}
 use Rattle.stream.specs.Passing.{notPassed, passedFind, passed, passes}
+use Rattle.stream.specs.Laws.{PassedFixed}
 use Rattle.stream.proofs.Turns.{turn-says, turn-owners}
 
 module _ (slots : ℕ) (owners line : List ℕ) where
@@ -59,3 +60,6 @@ module _ (s : State) (owners line : List ℕ) where
       let read = readLine (s .due) (nextNumber (s .lines)) line in
       let done = does-passed read t in
       (turn-says s owners line read on refl ∙ done .0, turn-owners s owners line read on refl ∙ done .1)
+
+pub passed-fixed : PassedFixed
+passed-fixed due number slots owners line x y p q = p ∙ sym q

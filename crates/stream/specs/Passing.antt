@@ -1,4 +1,4 @@
--- A helper notion: what a line leaves that is taken with no roster at hand, for speed: the same as `takes`, where it is taken.
+-- What a line leaves that is taken with no roster at hand, for speed. Where it is taken, `PassedTakes` says that it is what `takes` leaves.
 -- Assumes nothing.
 use mathlib.Core.Bool.{true, false}
 use mathlib.Core.List.{List}

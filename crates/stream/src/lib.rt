@@ -15,7 +15,7 @@ ghost use Rattle.find.specs.Reply.{found};
 ghost use Rattle.lines.specs.Lines.{keyOf};
 ghost use Rattle.stream.specs.Steps as steps;
 ghost use Rattle.stream.specs.Passing as passing;
-ghost use Rattle.stream.specs.Laws.{StoppedSilent, TakenFixed, AnswerFirst, DecimalReads};
+ghost use Rattle.stream.specs.Laws.{StoppedSilent, TakenFixed, AnswerFirst, DecimalReads, PassedTakes, PassedFixed};
 ghost use Rattle.stream.specs.Samples.{Empty, CountOnly, LeadingZero, NoSlots, MissingHost, LastWithout10, CommentInRecord};
 
 // Where a stream stands: what line is due, the slot count, the roster, how many lines were taken, and whether it has stopped.
@@ -302,5 +302,6 @@ pub fn take_line(state: State, owners: &mut [u16], line: &[u8]) -> Taken
 pub fn promises()
     ensures laws { λ _. ⌜ StoppedSilent × TakenFixed ⌝ }
     ensures texts { λ _. ⌜ AnswerFirst × DecimalReads ⌝ }
+    ensures passed { λ _. ⌜ PassedTakes × PassedFixed ⌝ }
     ensures ends { λ _. ⌜ Empty × CountOnly × LeadingZero × NoSlots × MissingHost × LastWithout10 × CommentInRecord ⌝ }
 {}
