@@ -2,6 +2,7 @@
 -- Assumes nothing.
 use mathlib.Core.Path.{_≡_, refl, sym, ap, _∙_}
 use mathlib.Core.Bool.{Bool, true, false, cond}
+use mathlib.Core.Logic.{_≢_}
 use mathlib.Core.List.{List, [], _∷_, _++_}
 use Prim.Native.Nat.{ℕ, suc}
 use native.Mathlib.Omega.{arith}
@@ -19,7 +20,7 @@ use Rattle.lines.specs.declared.Read.{Read}
 use Rattle.lines.specs.declared.Read.the-variants.{Count, Part, Whole, Malformed}
 use Rattle.lines.specs.Numbers.{isNumber, numberOf}
 use Rattle.lines.specs.Lines.{slotsName, hostName, rateName, keyName, commentSign, opAdd, opDrop, opRate, opFind, startsWith, isLine, fieldOf, keyOf, afterEquals, brings, withNumber, opens, keyed, readDue, readLine, answerOf, lineOf, recordsOf}
-use Rattle.lines.specs.Laws.{NumberSays, KeyAfterEquals, MalformedCarries, LongMalformed, CommentInside, NumberFixed, KeyFixed, ReadFixed}
+use Rattle.lines.specs.Laws.{NumberSays, KeyAfterEquals, MalformedCarries, OthersCarry, LongMalformed, CommentInside, NumberFixed, KeyFixed, ReadFixed}
 
 -- numbers -----------------------------------------------------------------------------
 
@@ -139,6 +140,16 @@ carries-line due number line = either (ltb 8192 (length line)) spoilt (carries-d
 
 pub malformed-carries : MalformedCarries
 malformed-carries due number line e = (ap lineOf (carries-line due number line .is e), ap recordsOf (carries-line due number line .is e))
+
+-- what is not malformed, case by case
+others : (read : Read) → answerOf read ≢ 13 → (answerOf read ≡ 0) × (lineOf read ≡ 0)
+others (Count value) n = (refl, refl)
+others (Part due) n = (refl, refl)
+others (Whole whole) n = (refl, refl)
+others (Malformed line) n = absurd (n refl)
+
+pub others-carry : OthersCarry
+others-carry due number line n = others (readLine due number line) n
 
 -- one answer -------------------------------------------------------------------------------
 

@@ -29,6 +29,12 @@ MalformedCarries =
     (due : Due) (number : ℕ) (line : List ℕ) → answerOf (readLine due number line) ≡ 13 →
     (lineOf (readLine due number line) ≡ number) × (recordsOf (readLine due number line) ≡ [])
 
+-- any other line answers 0 and carries no line's number
+abbrev pub OthersCarry : Type 0
+OthersCarry =
+    (due : Due) (number : ℕ) (line : List ℕ) → answerOf (readLine due number line) ≢ 13 →
+    (answerOf (readLine due number line) ≡ 0) × (lineOf (readLine due number line) ≡ 0)
+
 -- a line above 8,192 bytes is malformed whatever it holds
 abbrev pub LongMalformed : Type 0
 LongMalformed = (due : Due) (number : ℕ) (line : List ℕ) → 8192 < length line → readLine due number line ≡ Malformed number

@@ -3,7 +3,7 @@ use events::Event;
 ghost use mathlib.Core.Path.{_≡_};
 ghost use Rattle.lines.specs.Numbers as numbers;
 ghost use Rattle.lines.specs.Lines as lines;
-ghost use Rattle.lines.specs.Laws.{NumberSays, KeyAfterEquals, MalformedCarries, LongMalformed, CommentInside, NumberFixed, KeyFixed, ReadFixed};
+ghost use Rattle.lines.specs.Laws.{NumberSays, KeyAfterEquals, MalformedCarries, OthersCarry, LongMalformed, CommentInside, NumberFixed, KeyFixed, ReadFixed};
 
 // What a text says as a number.
 pub enum Number {
@@ -223,7 +223,7 @@ pub fn read_line(due: Due, number: u64, line: &[u8]) -> Read
 
 // The laws of the line reader: without their proofs this function is not proved.
 pub fn promises()
-    ensures carried { λ _. ⌜ NumberSays × KeyAfterEquals × MalformedCarries ⌝ }
+    ensures carried { λ _. ⌜ NumberSays × KeyAfterEquals × MalformedCarries × OthersCarry ⌝ }
     ensures refused { λ _. ⌜ LongMalformed × CommentInside ⌝ }
     ensures fixed { λ _. ⌜ NumberFixed × KeyFixed × ReadFixed ⌝ }
 {}
