@@ -1,4 +1,4 @@
--- A helper notion: the state after lines that were taken with no roster at hand.
+-- A helper notion of the proofs, no rule of the document: the state after lines that were taken with no roster at hand.
 -- Assumes nothing.
 use Prim.Native.Nat.{ℕ}
 use Rattle.lines.specs.declared.Due.{Due}

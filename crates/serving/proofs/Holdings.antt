@@ -16,7 +16,8 @@ use Rattle.buffer.specs.declared.Ran.{Ran}
 use Rattle.buffer.specs.Run.{run, ran}
 use Rattle.buffer.specs.Reads.{Served, unserved, goneOn, served, afterReads}
 use Rattle.buffer.proofs.Runs.{run-idle}
-use Rattle.serving.specs.Served.{Holding, Faithful, Longer}
+use Rattle.serving.specs.Served.{Faithful}
+use Rattle.serving.specs.Turns.{Holding, Longer}
 
 -- before the first read nothing is held
 pub holding-first : (buf : List ℕ) → Holding start (replicate 16384 0) buf 0

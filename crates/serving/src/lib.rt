@@ -4,7 +4,8 @@ ghost use mathlib.Core.Path.{_≡_};
 ghost use mathlib.Core.Bool.{false};
 ghost use Prim.Native.Nat.{_≤_, _<_};
 ghost use lib.ListN.{length, replicate};
-ghost use Rattle.serving.specs.Served.{Holding, Faithful, Led, ReadOn};
+ghost use Rattle.serving.specs.Served.{Faithful};
+ghost use Rattle.serving.specs.Turns.{Holding, Led, ReadOn};
 
 // Where an input is read and where what it prints is written, as file descriptors.
 struct Ends {

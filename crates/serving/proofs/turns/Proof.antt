@@ -3,7 +3,7 @@
 use native.Mathlib.Omega.{arith}
 use mathlib.Core.Path.{_≡_, refl, _∙_}
 use lib.ListN.{length}
-use Rattle.serving.specs.Served.{Holding}
+use Rattle.serving.specs.Turns.{Holding}
 use Rattle.serving.proofs.Holdings.{holding-first, broken-off}
 use borrow.Author.Needs.{needs}
 use borrow.Author.Tests.{not-true, not-false}
