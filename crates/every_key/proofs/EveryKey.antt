@@ -18,7 +18,7 @@ use Rattle.table.proofs.Moves.{zero-off}
 use Rattle.find.specs.Hash.{slotOf}
 use Rattle.find.specs.Reply.{answerOf, found}
 use Rattle.events.proofs.Histories.{reached-right}
-use Rattle.served.specs.Served.{EveryKeyServed}
+use Rattle.every_key.specs.EveryKey.{EveryKeyServed}
 
 pub every-key-served : EveryKeyServed
 unfolding found answerOf lowest
