@@ -52,12 +52,12 @@ module _ {s : State} {owners buf : List ℕ} {held : ℕ} (kept : Holding s owne
   now-owned owners′ o = o ∙ sym (ap (λ v. v .owners) after-run)
 
   -- a write failed, or the stream has stopped
-  pub over : (whole : Bool) → (whole ≡ true → r .state .stopped ≡ true) → Faithful (r .state) whole
-  over whole stops = record { reads = reads; state = now-state; done = λ w. inl (sym (ap (λ x. x .stopped) now-state) ∙ stops w) }
+  pub over : (told : Bool) → (told ≡ true → r .state .stopped ≡ true) → Faithful (r .state) told
+  over told stops = record { reads = reads; state = now-state; done = λ w. inl (sym (ap (λ x. x .stopped) now-state) ∙ stops w) }
 
   -- the input has ended with no line left
-  pub ended : (whole : Bool) → r .next ≡ 0 → r .state .stopped ≡ false → 84 ≤ size → Faithful (r .state) whole
-  ended whole still on room =
+  pub ended : (told : Bool) → r .next ≡ 0 → r .state .stopped ≡ false → 84 ≤ size → Faithful (r .state) told
+  ended told still on room =
       let none = run-idle s owners (take held buf) size (sym (ap (λ x. x .next) is) ∙ still) (sym (ap (λ x. x .state .stopped) is) ∙ on) room in
       let left : afterReads unserved reads .left ≡ take held buf = now-left ∙ ap (λ n. drop n (take held buf)) still in
       record { reads = reads; state = now-state; done = λ w. inr (ap (λ l. hasLine l 0) left ∙ none) }

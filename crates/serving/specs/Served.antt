@@ -9,8 +9,8 @@ use Rattle.stream.specs.declared.State.{State}
 use Rattle.feed.specs.Feed.{hasLine}
 use Rattle.buffer.specs.Reads.{unserved, afterReads}
 
--- at the end: after some reads the state is that of the definition; and where nothing failed the stream has stopped, or no line is left to take
-pub record Faithful (s : State) (whole : Bool) : Type 0 where
+-- at the end: after some reads the state is that of the definition; and, if so told, the stream has stopped or no line is left to take
+pub record Faithful (s : State) (told : Bool) : Type 0 where
   pub reads : List (List ℕ × ℕ)
   pub state : s ≡ afterReads unserved reads .state
-  pub done : whole ≡ true → (afterReads unserved reads .state .stopped ≡ true) ⊎ (hasLine (afterReads unserved reads .left) 0 ≡ false)
+  pub done : told ≡ true → (afterReads unserved reads .state .stopped ≡ true) ⊎ (hasLine (afterReads unserved reads .left) 0 ≡ false)

@@ -21,7 +21,7 @@ pub record Holding (s : State) (owners buf : List ℕ) (held : ℕ) : Type 0 whe
 
 -- a turn leads to the next one, or to the end
 abbrev pub Led : Step → List ℕ → List ℕ → Type 0
-Led step owners buf = (step .again ≡ true → Holding (step .state) owners buf (step .held)) × (step .again ≡ false → Faithful (step .state) (step .whole))
+Led step owners buf = (step .again ≡ true → Holding (step .state) owners buf (step .held)) × (step .again ≡ false → Faithful (step .state) (step .done))
 
 -- what is held after a read: what was held, and what came behind it
 pub record Longer (before after : List ℕ) (held more : ℕ) : Type 0 where

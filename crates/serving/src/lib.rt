@@ -13,31 +13,31 @@ struct Ends {
     output: i32,
 }
 
-// What a turn leaves: the state, how many bytes of the buffer are held, whether there is a next turn, and, at the end, whether no read or write failed.
+// What a turn leaves: the state, how many bytes of the buffer are held, whether there is a next turn, and, at the end, whether nothing read is left to take.
 struct Step {
     state: State,
     held: usize,
     again: bool,
-    whole: bool,
+    done: bool,
 }
 
-// How serving an input ended: the last state, and whether no read or write failed.
+// How serving an input ended: the last state, and whether nothing read is left to take. A write that fails may leave some.
 pub struct Ended {
     pub state: State,
-    pub whole: bool,
+    pub done: bool,
 }
 
 // The last turn.
-fn last(state: State, whole: bool) -> Step
+fn last(state: State, done: bool) -> Step
     ensures state { λ r. ⌜ r .state ≡ state ⌝ }
-    ensures whole { λ r. ⌜ r .whole ≡ whole ⌝ }
+    ensures done { λ r. ⌜ r .done ≡ done ⌝ }
     ensures over { λ r. ⌜ r .again ≡ false ⌝ }
 {
     Step {
         state,
         held: 0,
         again: false,
-        whole,
+        done,
     }
 }
 
@@ -51,9 +51,9 @@ fn write(output: i32, text: &[u8]) -> bool {
 }
 
 // Writes what the end of the input prints, with a piece of a line left over.
-fn at_end(state: State, piece: &[u8], out: &mut [u8], output: i32) -> bool {
+fn at_end(state: State, piece: &[u8], out: &mut [u8], output: i32) {
     let n = buffer::finish(state, piece, out);
-    write(output, &out[..n])
+    write(output, &out[..n]);
 }
 
 // Reads behind the bytes held, of which no line is to be taken; at the end of the input writes what that means.
@@ -64,18 +64,19 @@ fn more(state: State, buf: &mut [u8], held: usize, out: &mut [u8], ends: Ends) -
     let got = libc::read(ends.input, &mut buf[held..]);
     if got < 0 {
         os::fail(b"farmtable: read");
-        return last(state, false);
+        return last(state, true);
     }
     if got == 0 {
-        let written = at_end(state, &buf[..held], out, ends.output);
-        return last(state, written);
+        at_end(state, &buf[..held], out, ends.output);
+        return last(state, true);
     }
     let n = io::count(got, &buf[held..]);
+    let filled = held + n;
     Step {
         state,
-        held: held + n,
+        held: filled,
         again: true,
-        whole: false,
+        done: false,
     }
 }
 
@@ -110,7 +111,7 @@ fn turn(
         state: after,
         held: buffer::keep(&mut buf[..held], next),
         again: true,
-        whole: false,
+        done: false,
     }
 }
 
@@ -119,7 +120,7 @@ fn turns(owners: &mut [u16], buf: &mut [u8], out: &mut [u8], ends: Ends) -> Ende
     requires nobody { ⌜ now owners ≡ replicate 16384 0 ⌝ }
     requires large { ⌜ 8192 < length (now buf) ⌝ }
     requires room { ⌜ 84 ≤ length (now out) ⌝ }
-    ensures { λ r. ⌜ Faithful (r .state) (r .whole) ⌝ }
+    ensures { λ r. ⌜ Faithful (r .state) (r .done) ⌝ }
 {
     let mut state = stream::start();
     let mut held = 0;
@@ -130,17 +131,14 @@ fn turns(owners: &mut [u16], buf: &mut [u8], out: &mut [u8], ends: Ends) -> Ende
         if !step.again {
             return Ended {
                 state: after,
-                whole: step.whole,
+                done: step.done,
             };
         }
         state = after;
         held = step.held;
         left -= 1;
     }
-    Ended {
-        state,
-        whole: false,
-    }
+    Ended { state, done: false }
 }
 
 // As many owners as a table can have, all nobody.
@@ -150,9 +148,9 @@ fn nobody() -> [u16; 16384]
     [0u16; 16384]
 }
 
-// Serves a whole input, from one file descriptor to another, in memory that does not grow.
+// Serves a done input, from one file descriptor to another, in memory that does not grow.
 pub fn serve(input: i32, output: i32) -> Ended
-    ensures { λ r. ⌜ Faithful (r .state) (r .whole) ⌝ }
+    ensures { λ r. ⌜ Faithful (r .state) (r .done) ⌝ }
 {
     let mut owners = nobody();
     let mut buf = io::large_buffer();

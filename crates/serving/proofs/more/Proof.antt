@@ -69,8 +69,8 @@ part-count-end c = search needs
 count-requires : tie.Need-count-requires
 count-requires c κs = search needs
 
-add-t11 : tie.Need-add-t11
-add-t11 c = search needs
+add-filled : tie.Need-add-filled
+add-filled c = search needs
 
 same-length-4 : tie.Need-same-length-4
 same-length-4 c = search needs
@@ -102,6 +102,6 @@ more-spec =
     part-count-start
     part-count-end
     count-requires
-    add-t11
+    add-filled
     same-length-4
     returns-3)
