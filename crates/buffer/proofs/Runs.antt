@@ -127,7 +127,7 @@ roomed : (size : ℕ) → 84 ≤ size → roomFor size 0 ≡ true
 unfolding roomFor
 roomed size l = le-leb (0 + 84) size (omega arith)
 
--- a run that takes nothing, though it may, has no line to take, and leaves a piece of at most 8,192 bytes
+-- a run that takes nothing, though it may, has no line to take
 pub run-idle : (s : State) (owners input : List ℕ) (size : ℕ) → run s owners input size .next ≡ 0 → run s owners input size .state .stopped ≡ false → 84 ≤ size → hasLine input 0 ≡ false
 run-idle s owners input size still on room =
     by-test (goesOn input size (begun s owners))

@@ -43,7 +43,7 @@ fed s owners input from =
     record {
       state = takes s owners (lineAt input from) .state;
       said = takes s owners (lineAt input from) .said;
-      next = min (from + beforeTen (drop from input) + 1) (length input);
+      next = spanOf input from .next;
     }
     (nothing s from)
 

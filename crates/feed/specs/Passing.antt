@@ -2,13 +2,12 @@
 -- Assumes nothing.
 use mathlib.Core.Bool.{false, cond}
 use mathlib.Core.List.{List}
-use Prim.Native.Nat.{ℕ, _+_, min}
-use lib.ListN.{length, drop}
+use Prim.Native.Nat.{ℕ}
 use Rattle.lines.specs.declared.Due.{Due}
 use Rattle.stream.specs.declared.Said.the-variants.{Nothing}
 use Rattle.stream.specs.Passing.{passes}
 use Rattle.feed.specs.declared.Passing.{Passing}
-use Rattle.feed.specs.Feed.{beforeTen, hasLine, lineAt}
+use Rattle.feed.specs.Feed.{hasLine, lineAt, spanOf}
 
 -- nothing taken
 abbrev pub noneBy : Due → ℕ → Passing
@@ -22,6 +21,6 @@ passesBy due number slots owners input from =
       taken = passes due number slots owners (lineAt input from) .taken;
       due = passes due number slots owners (lineAt input from) .due;
       said = passes due number slots owners (lineAt input from) .said;
-      next = min (from + beforeTen (drop from input) + 1) (length input);
+      next = spanOf input from .next;
     }
     (noneBy due from)

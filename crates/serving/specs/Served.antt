@@ -9,7 +9,7 @@ use Rattle.stream.specs.declared.State.{State}
 use Rattle.feed.specs.Feed.{hasLine}
 use Rattle.buffer.specs.Reads.{unserved, afterReads}
 
--- at the end: after some reads the state is that of the definition; and, if so told, the stream has stopped or no line is left to take
+-- at the end: there are reads, if only none, after which the definition has this state; and, if so told, the stream has stopped or no line is left to take
 pub record Faithful (s : State) (told : Bool) : Type 0 where
   pub reads : List (List ℕ × ℕ)
   pub state : s ≡ afterReads unserved reads .state

@@ -148,7 +148,7 @@ fn nobody() -> [u16; 16384]
     [0u16; 16384]
 }
 
-// Serves a done input, from one file descriptor to another, in memory that does not grow.
+// Serves a whole input, from one file descriptor to another, in memory that does not grow.
 pub fn serve(input: i32, output: i32) -> Ended
     ensures { λ r. ⌜ Faithful (r .state) (r .done) ⌝ }
 {
