@@ -218,14 +218,8 @@ static uint32_t rearrange(const struct roster *r, uint32_t slots, uint16_t *tabl
     uint32_t room[MAX_HOSTS], lacks[MAX_HOSTS];
     share_list(r, slots, room);
     memcpy(lacks, room, sizeof lacks);
-    uint32_t freed = tally(r->hosts, n, lacks, table, length);
-    uint32_t lacked = 0;
-    for (size_t i = 0; i < n; i++)
-        lacked += lacks[i];
-    if (freed != lacked)
-        return 14;
+    *moved = tally(r->hosts, n, lacks, table, length);
     hand_over(r->hosts, n, room, lacks, table, length);
-    *moved = freed;
     return 0;
 }
 
@@ -275,10 +269,9 @@ static uint32_t apply(struct roster *r, uint32_t slots, const struct event *e, u
         return answer;
     struct roster next = *r;
     change_roster(&next, e);
-    answer = rearrange(&next, slots, table, length, moved);
-    if (answer == 0)
-        *r = next;
-    return answer;
+    rearrange(&next, slots, table, length, moved);
+    *r = next;
+    return 0;
 }
 
 // ---- finds

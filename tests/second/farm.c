@@ -15,7 +15,6 @@ struct move {
     uint32_t freed[MOST_SLOTS];
     size_t freed_count;
     uint16_t receiver[MOST_SLOTS];
-    size_t receiver_count;
 };
 
 static bool slots_in_range(uint64_t slots)
@@ -230,11 +229,11 @@ static void list_freed(struct table table, uint32_t held[], const uint32_t wante
 
 static void list_receivers(const struct roster *after, const uint32_t held[], const uint32_t wanted[], struct move *move)
 {
-    move->receiver_count = 0;
+    size_t receivers = 0;
     for (size_t place = 0; place < after->count; place++) {
         uint16_t host = after->number[place];
         for (uint32_t has = held[host]; has < wanted[host]; has++)
-            move->receiver[move->receiver_count++] = host;
+            move->receiver[receivers++] = host;
     }
 }
 
@@ -265,8 +264,6 @@ enum answer apply(struct roster *roster, struct table table, uint32_t slots, str
     if (answer != DONE)
         return answer;
     plan(&after, table, &move);
-    if (after.count > 0 && move.freed_count != move.receiver_count)
-        return UNEQUAL;
     for (size_t at = 0; at < move.freed_count; at++)
         table.owner[move.freed[at]] = after.count > 0 ? move.receiver[at] : 0;
     *roster = after;

@@ -31,8 +31,7 @@ enum answer {
     NO_OWNER = 10,
     BAD_LOAD = 11,
     WRONG_LIST = 12,
-    MALFORMED = 13,
-    UNEQUAL = 14
+    MALFORMED = 13
 };
 
 struct roster {

@@ -2,15 +2,15 @@
 -- Assumes nothing.
 use mathlib.Core.Path.{_≡_, refl, sym, _∙_}
 use mathlib.Core.Bool.{true, false}
-use mathlib.Core.Logic.{⊎-elim}
+use mathlib.Core.Logic.{_≢_, ⊎-elim}
 use mathlib.Core.List.{List, [], _∷_, _++_}
 use Prim.Native.Nat.{ℕ, _≤_, _<_}
 use native.Mathlib.Nat.{le-antisymm, eq-zero-or-pos}
 use native.Mathlib.Omega.{arith, by-contra}
 use lib.Dec.{eqb, ltb}
-use borrow.Author.Tests.{ltb-true, eqb-true, eq-eqb}
-use Rattle.base.specs.Rows.{Row, lowest, given, risesFrom, LowestIsFirst, LowestIsNone}
-use Rattle.base.proofs.Tests.{and-left, and-right, by-test, never}
+use borrow.Author.Tests.{ltb-true, eqb-true, eqb-false, eq-eqb}
+use Rattle.base.specs.Rows.{Row, lowest, listed, given, risesFrom, LowestIsFirst, LowestIsNone}
+use Rattle.base.proofs.Tests.{and-left, and-right, or-left, or-right, by-test, never}
 
 -- lowest, where the numbers rise -----------------------------------------------
 
@@ -92,6 +92,15 @@ lowest-is-none rows s = (
       (λ p. never (given rows (lowest rows)) (first-given 0 rows s (lowest rows) p refl .here) (none (lowest rows)))
       (eq-zero-or-pos (lowest rows))),
 )
+
+-- whatever the order of the rows, a number that none of them has is not the answer
+pub not-listed : (rows : List Row) (n : ℕ) → 0 < n → listed rows n ≡ false → lowest rows ≢ n
+unfolding listed lowest
+not-listed [] n l none e = omega arith
+not-listed (r ∷ rows) n l none e =
+    by-test (r .holds)
+    (λ h. eqb-false (r .number) n (or-left (eqb (r .number) n) (listed rows n) none) (sym (row-holds r rows h) ∙ e))
+    (λ h. not-listed rows n l (or-right (eqb (r .number) n) (listed rows n) none) (sym (row-fails r rows h) ∙ e))
 
 -- tables that are joined -------------------------------------------------------
 

@@ -17,6 +17,11 @@ unfoldable pub lowest : List Row → ℕ
 lowest [] = 0
 lowest (r ∷ rows) = cond (r .holds) (r .number) (lowest rows)
 
+-- the table has a row n, whether or not it holds
+unfoldable pub listed : List Row → ℕ → Bool
+listed [] n = false
+listed (r ∷ rows) n = eqb (r .number) n || listed rows n
+
 -- row n is in the table and holds
 unfoldable pub given : List Row → ℕ → Bool
 given [] n = false

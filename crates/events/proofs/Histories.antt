@@ -12,7 +12,7 @@ use lib.IntN.{pos, _-ℤ_, +ℤ-negℤ-cancel}
 use lib.ListN.{length, set, replicate, length-replicate, getD-replicate}
 use lib.Seq.{getD-take}
 use borrow.Author.Tests.{eq-eqb, ne-eqb, eqb-true, leb-true}
-use Rattle.base.specs.Rows.{risesFrom, lowest}
+use Rattle.base.specs.Rows.{lowest}
 use Rattle.base.specs.Sizes.{slotsFit, hostFits, rateFits}
 use Rattle.base.specs.Tables.{sum, at, total}
 use Rattle.base.specs.Lists.{insertAt, removeAt}
@@ -41,9 +41,9 @@ use Rattle.events.specs.declared.Event.{Event}
 use Rattle.events.specs.declared.Event.the-variants.{Add, Drop, Rate}
 use Rattle.events.specs.Events.{named, changed, changeRows, eventRows, badHost, answerOf, rosterAfter, tableAfter}
 use Rattle.events.specs.Forecasts.{hostQuota, forecastAnswer}
-use Rattle.events.specs.Demand3.{Reached, begin, next, slotsAt, StaysRight, SlotsSum, NoSmallerRatio, WithinBound, OnlyTheNamed, CountIsTrue, NoFewer, RefusedKeeps, rateAgain, SameRateStays, ForecastIsTrue, RowsRise, ReplyFixed, ForecastFixed}
+use Rattle.events.specs.Demand3.{Reached, begin, next, slotsAt, StaysRight, SlotsSum, NoSmallerRatio, WithinBound, OnlyTheNamed, CountIsTrue, NoFewer, RefusedKeeps, rateAgain, SameRateStays, ForecastIsTrue, ReplyFixed, ForecastFixed}
 use Rattle.events.proofs.OneHost.{only-added, only-dropped, only-rerated, add-allowed, drop-allowed, rate-allowed}
-use Rattle.events.proofs.Outcomes.{changed-sized, stopped-by-event, accepted, accepted-check, accepted-event, named-fits, row-passed, kept-roster, kept-table, none-moved, new-roster, new-table, new-moved, forecast-refused, forecast-made}
+use Rattle.events.proofs.Outcomes.{changed-sized, event-decides, accepted-check, accepted-event, named-fits, row-passed, kept-roster, kept-table, none-moved, new-roster, new-table, new-moved, forecast-refused, forecast-made}
 
 -- every reached state is right ------------------------------------------------------------
 
@@ -174,7 +174,7 @@ same-rate-stays S fits r slots h j l =
     let on : isOn (hostsOf r) (named e) ≡ true = and-right (valid r && rateFits (at (ratesOf r) j)) _ (s .0) in
     let fit : hostFits (named e) ≡ true = ap hostFits good ∙ facts r v .host-fits j l in
     let rows : lowest (eventRows r e) ≡ 0 = rw (fit, rate-rate-fits r (named e) (at (ratesOf r) j) (s .0), on) refl in
-    let z = accepted r S e slots (checks-out w) rows in
+    let z = event-decides r S e slots (checks-out w) ∙ rows in
     let table : tableAfter r S e slots ≡ slots = new-table r S e slots z ∙ ap (λ c. rearranged c S slots) (s .1) ∙ belonging-stays r S slots (w .sized) (w .belonging) in
     (z, new-roster r S e slots z ∙ s .1, table, count-is-true S r slots e ∙ ap (changes slots) table ∙ no-change slots)
 
@@ -187,9 +187,7 @@ same-answer {S} {r} {slots} w e asked good =
     by-test (hostFits (named e))
     (λ t. rw (w .sized .count-fits, w .sized .valid-roster, good, t) refl)
     (λ f. rw (w .sized .count-fits, w .sized .valid-roster, f) refl)
-    ∙ by-answer (lowest (eventRows r e))
-    (λ z. z ∙ sym (accepted r S e slots (checks-out w) z))
-    (λ ne. sym (stopped-by-event r S e slots (checks-out w) (lowest (eventRows r e)) refl ne))
+    ∙ sym (event-decides r S e slots (checks-out w))
 
 none-gained : (n : ℕ) → pos n -ℤ pos n ≡ pos 0
 none-gained n = rw (zero-add n) at (+ℤ-negℤ-cancel (pos 0) (pos n))
@@ -208,10 +206,6 @@ forecast-is-true S fits r slots h e asked good =
     )
 
 -- one reply ---------------------------------------------------------------------------------------
-
-pub rows-rise : RowsRise
-unfolding risesFrom
-rows-rise S r slots e asked = (refl, refl)
 
 pub reply-fixed : ReplyFixed
 reply-fixed S r slots e x y t u p q v w = (p ∙ sym q, v ∙ sym w)

@@ -1,3 +1,4 @@
+pub mod Rows
 pub mod Checks
 pub mod Outcomes
 pub mod OneHost

@@ -1,7 +1,7 @@
 -- What an event answers and leaves, case by case.
 -- Assumes nothing.
 use mathlib.Core.Path.{_≡_, refl, sym, _∙_}
-use mathlib.Core.Bool.{Bool, true, false, _||_, not, and-false}
+use mathlib.Core.Bool.{Bool, true, false, _||_, not}
 use mathlib.Core.Logic.{⊎-elim}
 use mathlib.Core.List.{List, _∷_, _++_}
 use Prim.Native.Nat.{ℕ, _<_}
@@ -9,8 +9,8 @@ use native.Mathlib.Nat.{pos-of-ne-zero, eq-zero-or-pos}
 use native.Mathlib.Omega.{arith}
 use lib.IntN.{ℤ, pos, _-ℤ_}
 use lib.ListN.{length}
-use borrow.Author.Tests.{eq-eqb, ne-eqb, not-false}
-use Rattle.base.specs.Rows.{Row, lowest, risesFrom}
+use borrow.Author.Tests.{ne-eqb, not-false}
+use Rattle.base.specs.Rows.{Row, lowest}
 use Rattle.base.specs.Sizes.{hostFits, slotsFit}
 use Rattle.base.specs.Tables.{at}
 use Rattle.base.proofs.Answers.{lowest-stop, lowest-go}
@@ -19,10 +19,10 @@ use Rattle.roster.specs.declared.Roster.{Roster}
 use Rattle.roster.specs.Roster.{valid}
 use Rattle.roster.proofs.Changes.{added-valid, dropped-valid, rerated-valid}
 use Rattle.mover.specs.Mover.{changes}
-use Rattle.table.specs.Table.{noHosts, rearranged}
-use Rattle.table.specs.Answers.{sizeRows, tableRows, moveRows, checkAnswer}
+use Rattle.table.specs.Table.{rearranged}
+use Rattle.table.specs.Answers.{sizeRows, tableRows, checkAnswer}
 use Rattle.table.specs.Laws.{Sized}
-use Rattle.table.proofs.Moves.{as-many}
+use Rattle.table.proofs.Moves.{freed-is-lacked}
 use Rattle.table.proofs.Replies.{check-zero}
 use Rattle.events.specs.declared.Event.{Event}
 use Rattle.events.specs.declared.Event.the-variants.{Add, Drop, Rate}
@@ -30,6 +30,8 @@ use Rattle.events.specs.declared.Reply.{Reply}
 use Rattle.events.specs.declared.Foreseen.{Foreseen}
 use Rattle.events.specs.Forecasts.{hostQuota, forecastAnswer, changeOf, forecastOf}
 use Rattle.events.specs.Events.{named, badHost, eventRows, changeRows, changed, answerOf, rosterAfter, tableAfter, movedBy, replyOf}
+use Rattle.events.specs.Laws.{ChecksSuffice}
+use Rattle.events.proofs.Rows.{checks-rise}
 
 -- a valid roster stays so, whatever the event
 pub changed-valid : (r : Roster) (e : Event) → valid r ≡ true → valid (changed r e) ≡ true
@@ -50,14 +52,6 @@ named-fits r e z = not-false (hostFits (named e)) (row-passed 4 (badHost e) (cha
 by-contra-zero : (n : ℕ) → ((n ≡ 0 → ⊥) → ⊥) → n ≡ 0
 by-contra-zero n f = ⊎-elim (λ z. z) (λ p. absurd (f (λ z. omega arith))) (eq-zero-or-pos n)
 
-checks-rise : (r : Roster) (S : ℕ) (slots : List ℕ) → risesFrom 0 (sizeRows r S (length slots) ++ tableRows r S slots) ≡ true
-unfolding risesFrom
-checks-rise r S slots = refl
-
-event-rises : (r : Roster) (e : Event) → risesFrom 0 (eventRows r e) ≡ true
-unfolding risesFrom
-event-rises r e = refl
-
 -- the answer, group by group -------------------------------------------------------------
 
 module _ (r : Roster) (S : ℕ) (e : Event) (slots : List ℕ) where
@@ -66,14 +60,12 @@ module _ (r : Roster) (S : ℕ) (e : Event) (slots : List ℕ) where
 
   pub stopped-by-check : (a : ℕ) → a ≡ checkAnswer r S slots → (a ≡ 0 → ⊥) → answerOf r S e slots ≡ a
   unfolding answerOf checkAnswer
-  stopped-by-check a h ne = lowest-stop checks (eventRows r e ++ moveRows (changed r e) S slots) a (pos-of-ne-zero ne) (sym h)
+  stopped-by-check a h ne = lowest-stop checks (eventRows r e) a (pos-of-ne-zero ne) (sym h)
 
-  event-decides : checkAnswer r S slots ≡ 0 → answerOf r S e slots ≡ lowest (eventRows r e ++ moveRows (changed r e) S slots)
+  -- past the check the event's own rows decide
+  pub event-decides : checkAnswer r S slots ≡ 0 → answerOf r S e slots ≡ lowest (eventRows r e)
   unfolding answerOf checkAnswer
-  event-decides z = lowest-go 0 checks (eventRows r e ++ moveRows (changed r e) S slots) (checks-rise r S slots) z
-
-  pub stopped-by-event : checkAnswer r S slots ≡ 0 → (a : ℕ) → a ≡ lowest (eventRows r e) → (a ≡ 0 → ⊥) → answerOf r S e slots ≡ a
-  stopped-by-event z a h ne = event-decides z ∙ lowest-stop (eventRows r e) (moveRows (changed r e) S slots) a (pos-of-ne-zero ne) (sym h)
+  event-decides z = lowest-go 0 checks (eventRows r e) (checks-rise r S slots) z
 
   -- the changed roster is as well sized
   pub changed-sized : checkAnswer r S slots ≡ 0 → Sized (changed r e) S slots
@@ -81,18 +73,12 @@ module _ (r : Roster) (S : ℕ) (e : Event) (slots : List ℕ) where
       let s = check-zero r S slots z .0 in
       record { valid-roster = changed-valid r e (s .valid-roster); count-fits = s .count-fits; that-long = s .that-long }
 
-  pub accepted : checkAnswer r S slots ≡ 0 → lowest (eventRows r e) ≡ 0 → answerOf r S e slots ≡ 0
-  unfolding lowest
-  accepted z h =
-      event-decides z ∙ lowest-go 0 (eventRows r e) (moveRows (changed r e) S slots) (event-rises r e) h
-      ∙ rw (eq-eqb _ _ (as-many (changed r e) S slots (changed-sized z)), and-false (not (noHosts (changed r e)))) refl
-
   -- an answer of 0 has passed both groups
   pub accepted-check : answerOf r S e slots ≡ 0 → checkAnswer r S slots ≡ 0
   accepted-check z = by-contra-zero (checkAnswer r S slots) (λ ne. ne (sym (stopped-by-check (checkAnswer r S slots) refl ne) ∙ z))
 
   pub accepted-event : answerOf r S e slots ≡ 0 → lowest (eventRows r e) ≡ 0
-  accepted-event z = by-contra-zero (lowest (eventRows r e)) (λ ne. ne (sym (stopped-by-event (accepted-check z) (lowest (eventRows r e)) refl ne) ∙ z))
+  accepted-event z = sym (event-decides (accepted-check z)) ∙ z
 
   -- what is left -----------------------------------------------------------------------------
 
@@ -133,6 +119,10 @@ module _ (r : Roster) (S : ℕ) (e : Event) (slots : List ℕ) where
 
   pub accepted-reply : answerOf r S e slots ≡ 0 → (s : Roster) (n : ℕ) → s ≡ changed r e → n ≡ changes slots (rearranged (changed r e) S slots) → replyOf r S e slots ≡ says 0 s n
   accepted-reply z s n p q = reply-is 0 s n z (new-roster z ∙ sym p) (new-moved z ∙ sym q)
+
+-- what is freed and what is lacked after an event's checks
+pub checks-suffice : ChecksSuffice
+checks-suffice S r slots e z = freed-is-lacked (changed r e) S slots (changed-sized r S e slots (accepted-check r S e slots z))
 
 -- forecasts ------------------------------------------------------------------------------------
 

@@ -12,7 +12,7 @@ use Rattle.roster.specs.Roster.{hostsOf, isOn}
 use Rattle.roster.specs.Changes.{added, dropped, rerated}
 use Rattle.mover.specs.Mover.{changes}
 use Rattle.table.specs.Table.{rearranged}
-use Rattle.table.specs.Answers.{sizeRows, tableRows, moveRows}
+use Rattle.table.specs.Answers.{sizeRows, tableRows}
 use Rattle.events.specs.declared.Event.{Event}
 use Rattle.events.specs.declared.Event.the-variants.{Add, Drop, Rate}
 use Rattle.events.specs.declared.Reply.{Reply}
@@ -69,9 +69,9 @@ changed r (Add host rate) = added r host rate
 changed r (Drop host) = dropped r host
 changed r (Rate host rate) = rerated r host rate
 
--- the rows of an event: 1, 2, 3, then 4 to 8, then 14
+-- the rows of an event: 1, 2, 3, then 4 to 8
 abbrev pub applyRows : Roster → ℕ → Event → List ℕ → List Row
-applyRows r S e slots = (sizeRows r S (length slots) ++ tableRows r S slots) ++ eventRows r e ++ moveRows (changed r e) S slots
+applyRows r S e slots = (sizeRows r S (length slots) ++ tableRows r S slots) ++ eventRows r e
 
 -- the answer: the lowest row that holds
 unfoldable pub answerOf : Roster → ℕ → Event → List ℕ → ℕ

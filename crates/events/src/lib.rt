@@ -11,6 +11,7 @@ ghost use Rattle.events.specs.Events as events;
 ghost use Rattle.events.specs.Forecasts as forecasts;
 ghost use Rattle.events.specs.Demand3.{StaysRight, SlotsSum, NoSmallerRatio, WithinBound, OnlyTheNamed, CountIsTrue, NoFewer, RefusedKeeps};
 ghost use Rattle.events.specs.Demand3.{SameRateStays, ForecastIsTrue, RowsRise, ReplyFixed, ForecastFixed};
+ghost use Rattle.events.specs.Laws.{ChecksSuffice, NeverFourteen};
 
 // A change of the roster, with the host it names. Numbers are wide enough to be out of range.
 pub enum Event {
@@ -139,14 +140,8 @@ pub fn apply(r: Roster, slots: u32, event: Event, table: &mut [u16]) -> Reply
         };
     }
     let next = changed(r, event);
+    // the checks suffice for the move, so its answer is 0
     let m = table::rearrange(next, slots, table);
-    if m.answer != 0 {
-        return Reply {
-            answer: m.answer,
-            roster: r,
-            moved: 0,
-        };
-    }
     Reply {
         answer: 0,
         roster: next,
@@ -223,4 +218,5 @@ pub fn promises()
     ensures moves { λ _. ⌜ OnlyTheNamed × CountIsTrue × NoFewer × RefusedKeeps × SameRateStays ⌝ }
     ensures forecasts { λ _. ⌜ ForecastIsTrue × RowsRise ⌝ }
     ensures fixed { λ _. ⌜ ReplyFixed × ForecastFixed ⌝ }
+    ensures checks { λ _. ⌜ ChecksSuffice × NeverFourteen ⌝ }
 {}

@@ -22,16 +22,13 @@ use Rattle.mover.specs.Mover.{held, heldBelow, freed, freedBelow, lack, lacks, 
 use Rattle.mover.specs.Laws.{Fitting}
 use Rattle.mover.proofs.Laws.{freed-is-lacking, moved-is-exact, changed-is-freed, fewest-changes, exact-none-freed, none-freed-same, none-freed-exact, quota-off, host-on}
 use Rattle.mover.proofs.Runs.{runs-length}
-use Rattle.table.specs.Table.{noHosts, belongs, owners, shares, fresh, rearranged, freedSlots, lackedSlots}
-use Rattle.table.specs.Laws.{Sized, FreshBelongs, RearrangedBelongs, NoHostsZero, FewestMoves, BelongingStays}
+use Rattle.table.specs.Table.{noHosts, belongs, owners, shares, fresh, rearranged, freedSlots}
+use Rattle.table.specs.Laws.{Sized, FreshBelongs, RearrangedBelongs, NoHostsZero, FewestMoves, FreedIsLacked, BelongingStays}
 use Rattle.table.proofs.Owners.{owners-none, owners-some, shares-none, fitting, belongs-exact, exact-belongs}
 
 module _ (r : Roster) (S : ℕ) (slots : List ℕ) (z : Sized r S slots) where
   pub fits : Fitting (owners r) (shares r S) slots
   fits = fitting r (z .valid-roster) S slots (z .that-long)
-
-  pub as-many : freedSlots r S slots ≡ lackedSlots r S slots
-  as-many = freed-is-lacking (owners r) (shares r S) slots fits
 
   -- a table belongs exactly where no slot is freed
   pub belongs-none-freed : belongs r S slots ≡ true → freedSlots r S slots ≡ 0
@@ -39,6 +36,9 @@ module _ (r : Roster) (S : ℕ) (slots : List ℕ) (z : Sized r S slots) where
 
   pub none-freed-belongs : freedSlots r S slots ≡ 0 → belongs r S slots ≡ true
   none-freed-belongs e = exact-belongs r (z .valid-roster) S slots (none-freed-exact (owners r) (shares r S) slots fits e)
+
+pub freed-is-lacked : FreedIsLacked
+freed-is-lacked r S slots z = freed-is-lacking (owners r) (shares r S) slots (fits r S slots z)
 
 pub rearranged-belongs : RearrangedBelongs
 rearranged-belongs r S slots z =

@@ -1,7 +1,7 @@
 -- What the calls on a table answer, case by case.
 -- Assumes nothing.
 use mathlib.Core.Path.{_≡_, refl, sym, ap, ap₂, _∙_, fun-ext}
-use mathlib.Core.Bool.{true, false, _&&_, not, cond, and-false}
+use mathlib.Core.Bool.{true, false, _&&_, not, cond}
 use mathlib.Core.Logic.{⊎-elim}
 use mathlib.Core.List.{List}
 use Prim.Native.Nat.{ℕ, _≤_, _<_}
@@ -21,11 +21,11 @@ use Rattle.roster.specs.Roster.{valid, isOn}
 use Rattle.mover.specs.Mover.{changes}
 use Rattle.table.specs.declared.Checked.{Checked}
 use Rattle.table.specs.declared.Moved.{Moved}
-use Rattle.table.specs.Table.{noHosts, belongs, known, stranger, owners, fresh, rearranged, freedSlots}
-use Rattle.table.specs.Answers.{sizeRows, tableRows, moveRows, checkAnswer, checked, layoutAnswer, laidOut, moveAnswer, movedTo, moveReply}
-use Rattle.table.specs.Laws.{Sized, MoveAnswersZero, RowsRise, CheckFixed, LayoutFixed, MoveFixed}
+use Rattle.table.specs.Table.{belongs, known, stranger, owners, fresh, rearranged, freedSlots}
+use Rattle.table.specs.Answers.{sizeRows, tableRows, checkAnswer, checked, layoutAnswer, laidOut, moveAnswer, movedTo, moveReply}
+use Rattle.table.specs.Laws.{Sized, RowsRise, CheckFixed, LayoutFixed, MoveFixed}
 use Rattle.table.proofs.Owners.{known-owner, belongs-exact}
-use Rattle.table.proofs.Moves.{as-many, belongs-none-freed, none-freed-belongs, fewest-moves}
+use Rattle.table.proofs.Moves.{belongs-none-freed, none-freed-belongs, fewest-moves}
 
 -- the rows of sizes -------------------------------------------------------------------------
 
@@ -131,10 +131,6 @@ check-zero r S slots e =
 abbrev pub moves : ℕ → ℕ → Moved
 moves a n = record { answer = a; count = n }
 
--- a reply is told by its two parts
-pub moves-are : (m : Moved) (a n : ℕ) → m .answer ≡ a → m .count ≡ n → m ≡ moves a n
-moves-are m a n e f = λ i. record { answer = e i; count = f i }
-
 pub no-change : (slots : List ℕ) → changes slots slots ≡ 0
 no-change slots = count-none (length slots) _ (λ i l. ap not (eq-eqb (at slots i) (at slots i) refl))
 
@@ -147,24 +143,21 @@ pub move-sizes : (r : Roster) (S : ℕ) (slots : List ℕ) (a : ℕ) → a ≡ l
     (moveReply r S slots ≡ moves a 0) × (movedTo r S slots ≡ slots)
 unfolding moveAnswer
 move-sizes r S slots a e ne =
-    let says-a = lowest-stop (sizeRows r S (length slots)) (moveRows r S slots) a (pos-of-ne-zero ne) (sym e) in
-    let same = move-refused r S slots a says-a ne in
-    (ap₂ moves says-a (ap (changes slots) same ∙ no-change slots), same)
-
-pub move-answers-zero : MoveAnswersZero
-unfolding moveAnswer lowest
-move-answers-zero r S slots z =
-    lowest-go 0 (sizeRows r S (length slots)) (moveRows r S slots) (sizes-rise r S (length slots)) (sized-sizes r S slots z)
-    ∙ rw (eq-eqb _ _ (as-many r S slots z), and-false (not (noHosts r))) refl
+    let same = move-refused r S slots a (sym e) ne in
+    (ap₂ moves (sym e) (ap (changes slots) same ∙ no-change slots), same)
 
 module _ (r : Roster) (S : ℕ) (slots : List ℕ) (z : Sized r S slots) where
+  pub move-accepted : moveAnswer r S slots ≡ 0
+  unfolding moveAnswer
+  move-accepted = sized-sizes r S slots z
+
   pub moved-to : movedTo r S slots ≡ rearranged r S slots
   unfolding movedTo
-  moved-to = rw (move-answers-zero r S slots z)
+  moved-to = rw move-accepted
 
   pub move-done : (n : ℕ) → n ≡ freedSlots r S slots → moveReply r S slots ≡ moves 0 n
   move-done n e =
-      ap₂ moves (move-answers-zero r S slots z) (ap (changes slots) moved-to ∙ fewest-moves r S slots z .0 ∙ sym e)
+      ap₂ moves move-accepted (ap (changes slots) moved-to ∙ fewest-moves r S slots z .0 ∙ sym e)
 
 -- the layout ----------------------------------------------------------------------------------
 

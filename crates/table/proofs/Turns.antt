@@ -10,17 +10,15 @@ use native.Mathlib.Numerals.{add-one}
 use native.Mathlib.Omega.{arith, by-contra}
 use native.Mathlib.Decide.{ℕ-discrete, decLt}
 use lib.Dec.{eqb}
-use lib.ListN.{length, drop, set, replicate, length-set, List·getD-eq-default, drop-of-length-le}
+use lib.ListN.{length, drop, set, replicate, length-set, drop-of-length-le}
 use lib.Seq.{drop-cons, drop-drop, getD-drop, getD-set-same, getD-set-other, set-getD, take-all}
 use borrow.Author.Tests.{eq-eqb, ne-eqb}
 use Rattle.base.specs.Tables.{one-if, at}
 use Rattle.base.proofs.Tests.{by-test}
-use Rattle.base.proofs.Sums.{sum-at}
-use Rattle.base.proofs.Entries.{is-table, length-table, at-table, overlay, overlay-next, overlay-done, at-overlay}
+use Rattle.base.proofs.Entries.{is-table, overlay, overlay-next, overlay-done, at-overlay}
 use Rattle.roster.specs.Roster.{isOn, place, Rises}
 use Rattle.roster.proofs.Search.{place-at, on-place}
 use Rattle.mover.specs.Mover.{held, quotaOf, lack, lacks, runs}
-use Rattle.mover.specs.Laws.{Fitting}
 use Rattle.mover.specs.Pass.{lowered, pass, frees, roomAfter}
 use Rattle.mover.proofs.Passes.{lowered-same, lowered-other, lowered-zero, length-pass, room-after}
 use Rattle.mover.proofs.Laws.{quota-on, quota-off, quota-host, host-on}
@@ -283,13 +281,3 @@ hand-done {hosts} {room₀} {short₀} {slots₀} {i = i} w done =
     let e : i ≡ length slots₀ = omega (arith, w .upto) in
     w .entries ∙ ap (λ n. overlay n whole slots₀) e ∙ overlay-done whole slots₀ (length slots₀) refl
     ∙ take-all (length slots₀) whole (le-of-eq (length-pass (quotaOf hosts room₀) (runs hosts short₀) slots₀))
-
--- what is lacked is little ------------------------------------------------------------------------
-
-pub lacks-small : (hosts quotas slots : List ℕ) → Fitting hosts quotas slots → length slots ≤ 16384 → (i : ℕ) → at (lacks hosts quotas slots) i ≤ 16384
-lacks-small hosts quotas slots w small i =
-    by-cases (decLt i (length hosts))
-    (λ l. let e = at-table (length hosts) (lack hosts quotas slots) i l in
-    let q = sum-at (length quotas) (at quotas) i (rw (w .a-quota-each) l) in
-    omega (arith, w .as-many))
-    (λ v. let z : at (lacks hosts quotas slots) i ≡ 0 = List·getD-eq-default (lacks hosts quotas slots) 0 (rw (length-table (length hosts) (lack hosts quotas slots)) (by-contra _ _ v)) in omega arith)

@@ -12,7 +12,7 @@ use Rattle.roster.specs.Roster.{valid}
 use Rattle.mover.specs.Mover.{changes}
 use Rattle.table.specs.declared.Checked.{Checked}
 use Rattle.table.specs.declared.Moved.{Moved}
-use Rattle.table.specs.Table.{noHosts, belongs, stranger, fresh, rearranged, freedSlots, lackedSlots}
+use Rattle.table.specs.Table.{belongs, stranger, fresh, rearranged}
 
 -- 1: the slot count is outside 1 to 16,384, or the table's length is not the slot count; 2: the roster breaks a rule
 abbrev pub sizeRows : Roster → ℕ → ℕ → List Row
@@ -22,10 +22,6 @@ sizeRows r S n =
 -- 3: the table does not belong to the roster
 abbrev pub tableRows : Roster → ℕ → List ℕ → List Row
 tableRows r S slots = record { number = 3; holds = not (belongs r S slots) } ∷ []
-
--- 14: with hosts left, the freed slots are not as many as the hosts lack
-abbrev pub moveRows : Roster → ℕ → List ℕ → List Row
-moveRows r S slots = record { number = 14; holds = not (noHosts r) && not (eqb (freedSlots r S slots) (lackedSlots r S slots)) } ∷ []
 
 -- the check: its answer, and the slot that goes with 3
 unfoldable pub checkAnswer : Roster → ℕ → List ℕ → ℕ
@@ -43,7 +39,7 @@ laidOut r S slots = cond (eqb (layoutAnswer r S slots) 0) (fresh r S) slots
 
 -- the move: its answer, the table at exit, and how many slots changed owner
 unfoldable pub moveAnswer : Roster → ℕ → List ℕ → ℕ
-moveAnswer r S slots = lowest (sizeRows r S (length slots) ++ moveRows r S slots)
+moveAnswer r S slots = lowest (sizeRows r S (length slots))
 
 unfoldable pub movedTo : Roster → ℕ → List ℕ → List ℕ
 movedTo r S slots = cond (eqb (moveAnswer r S slots) 0) (rearranged r S slots) slots

@@ -12,8 +12,8 @@ use Rattle.roster.specs.Roster.{valid}
 use Rattle.mover.specs.Mover.{changes}
 use Rattle.table.specs.declared.Checked.{Checked}
 use Rattle.table.specs.declared.Moved.{Moved}
-use Rattle.table.specs.Table.{noHosts, belongs, fresh, rearranged, freedSlots}
-use Rattle.table.specs.Answers.{sizeRows, tableRows, moveRows, checked, layoutAnswer, laidOut, moveAnswer, movedTo, moveReply}
+use Rattle.table.specs.Table.{noHosts, belongs, fresh, rearranged, freedSlots, lackedSlots}
+use Rattle.table.specs.Answers.{sizeRows, tableRows, checked, layoutAnswer, laidOut, movedTo, moveReply}
 
 -- a valid roster, a slot count in range, and a table of that length
 pub record Sized (r : Roster) (S : ℕ) (slots : List ℕ) : Type 0 where
@@ -46,15 +46,15 @@ FewestMoves =
 abbrev pub BelongingStays : Type 0
 BelongingStays = (r : Roster) (S : ℕ) (slots : List ℕ) → Sized r S slots → belongs r S slots ≡ true → rearranged r S slots ≡ slots
 
--- row 14 is never given: the freed slots are always as many as the hosts lack
-abbrev pub MoveAnswersZero : Type 0
-MoveAnswersZero = (r : Roster) (S : ℕ) (slots : List ℕ) → Sized r S slots → moveAnswer r S slots ≡ 0
+-- document 02, request 11: after the checks of the count, the length and the roster the freed slots are always as many as the hosts lack
+abbrev pub FreedIsLacked : Type 0
+FreedIsLacked = (r : Roster) (S : ℕ) (slots : List ℕ) → Sized r S slots → freedSlots r S slots ≡ lackedSlots r S slots
 
 -- the rows rise in number, so that each answer is the lowest row that holds (`LowestIsFirst` of base)
 abbrev pub RowsRise : Type 0
 RowsRise =
     (r : Roster) (S : ℕ) (slots : List ℕ) →
-    (risesFrom 0 (sizeRows r S (length slots) ++ tableRows r S slots) ≡ true) × (risesFrom 0 (sizeRows r S (length slots) ++ moveRows r S slots) ≡ true)
+    (risesFrom 0 (sizeRows r S (length slots) ++ tableRows r S slots) ≡ true) × (risesFrom 0 (sizeRows r S (length slots)) ≡ true)
 
 -- two replies that meet a contract are equal, and so are the tables they leave
 abbrev pub CheckFixed : Type 0

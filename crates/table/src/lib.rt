@@ -2,9 +2,9 @@
 use roster::Roster;
 ghost use mathlib.Core.Path.{_≡_};
 ghost use mathlib.Core.Bool.{true, not};
-ghost use Prim.Native.Nat.{ℕ, _≤_, _<_};
+ghost use Prim.Native.Nat.{_≤_, _<_};
 ghost use lib.ListN.{length, replicate};
-ghost use Rattle.base.specs.Tables.{first, at, total};
+ghost use Rattle.base.specs.Tables.{first, at};
 ghost use Rattle.base.specs.Lists.{padded};
 ghost use Rattle.base.specs.Sizes.{slotsFit};
 ghost use Rattle.base.specs.Rows.{lowest};
@@ -14,7 +14,7 @@ ghost use Rattle.mover.specs.Laws.{Fitting};
 ghost use Rattle.mover.specs.Pass.{pass, frees};
 ghost use Rattle.table.specs.Table.{owners, shares};
 ghost use Rattle.table.specs.Answers as answers;
-ghost use Rattle.table.specs.Laws.{FreshBelongs, RearrangedBelongs, NoHostsZero, BelongingStays, FewestMoves, MoveAnswersZero, RowsRise};
+ghost use Rattle.table.specs.Laws.{FreshBelongs, RearrangedBelongs, NoHostsZero, BelongingStays, FewestMoves, FreedIsLacked, RowsRise};
 ghost use Rattle.table.specs.Laws.{CheckFixed, LayoutFixed, MoveFixed};
 ghost use Rattle.table.specs.Seat.{Seat, NextShort};
 
@@ -152,20 +152,6 @@ fn tally(hosts: &[u16], room: &mut [u32], table: &[u16]) -> u32
     freed
 }
 
-// The sum of what the hosts lack, of which each is at most the slot count.
-fn sum_of(list: &[u32]) -> u32
-    requires { ⌜ (length (now list) ≤ 256) × ((i : ℕ) → at (now list) i ≤ 16384) ⌝ }
-    ensures { λ r. ⌜ r ≡ total (now (list .entry)) ⌝ }
-{
-    let mut sum = 0;
-    let mut i = 0;
-    while i < list.len() {
-        sum += list[i];
-        i += 1;
-    }
-    sum
-}
-
 // The first host from a place on that still lacks a slot, or the number of hosts.
 fn next_short(lacks: &[u32], from: usize) -> usize
     requires { ⌜ from ≤ length (now lacks) ⌝ }
@@ -203,26 +189,16 @@ fn hand_over(hosts: &[u16], room: &mut [u32], short: &mut [u32], table: &mut [u1
     }
 }
 
-// Counts what is freed and what is lacked, and hands over only where they are as many.
-fn move_slots(hosts: &[u16], room: &mut [u32], short: &mut [u32], table: &mut [u16]) -> Moved
+// Counts what is freed and what each host lacks, which is as many, and hands it over.
+fn move_slots(hosts: &[u16], room: &mut [u32], short: &mut [u32], table: &mut [u16]) -> u32
     requires fits { ⌜ Fitting (now hosts) (now room) (now table) × (now short ≡ now room) ⌝ }
-    requires small { ⌜ (length (now table) ≤ 16384) × (length (now hosts) ≤ 256) ⌝ }
-    ensures reply { λ m. ⌜ (m .answer ≡ 0) × (m .count ≡ freedBelow (now (hosts .entry)) (now (room .entry)) (now (table .entry)) (length (now (table .entry)))) ⌝ }
-    ensures slots { λ m. ⌜ now (table .exit) ≡ moved (now (hosts .entry)) (now (room .entry)) (now (table .entry)) ⌝ }
+    requires small { ⌜ length (now table) ≤ 16384 ⌝ }
+    ensures count { λ n. ⌜ n ≡ freedBelow (now (hosts .entry)) (now (room .entry)) (now (table .entry)) (length (now (table .entry))) ⌝ }
+    ensures slots { λ n. ⌜ now (table .exit) ≡ moved (now (hosts .entry)) (now (room .entry)) (now (table .entry)) ⌝ }
 {
     let freed = tally(hosts, short, table);
-    let lacked = sum_of(short);
-    if freed != lacked {
-        return Moved {
-            answer: 14,
-            count: 0,
-        };
-    }
     hand_over(hosts, room, short, table);
-    Moved {
-        answer: 0,
-        count: freed,
-    }
+    freed
 }
 
 // Gives every slot to nobody.
@@ -274,7 +250,11 @@ pub fn rearrange(r: Roster, slots: u32, table: &mut [u16]) -> Moved
     let hosts = r.hosts;
     let mut room = share_list(r, slots);
     let mut short = room;
-    move_slots(&hosts[..n], &mut room[..n], &mut short[..n], table)
+    let freed = move_slots(&hosts[..n], &mut room[..n], &mut short[..n], table);
+    Moved {
+        answer: 0,
+        count: freed,
+    }
 }
 
 // Lays a table out afresh: each host its quota of consecutive slots, in rising host number.
@@ -294,6 +274,6 @@ pub fn layout(r: Roster, slots: u32, table: &mut [u16]) -> u32
 // The laws of tables: without their proofs this function is not proved.
 pub fn promises()
     ensures belong { λ _. ⌜ FreshBelongs × RearrangedBelongs × NoHostsZero × BelongingStays ⌝ }
-    ensures fewest { λ _. ⌜ FewestMoves × MoveAnswersZero × RowsRise ⌝ }
+    ensures fewest { λ _. ⌜ FewestMoves × FreedIsLacked × RowsRise ⌝ }
     ensures fixed { λ _. ⌜ CheckFixed × LayoutFixed × MoveFixed ⌝ }
 {}

@@ -4,10 +4,10 @@ use borrow.Author.Needs.{needs}
 use mathlib.Core.Path.{_≡_, sym, ap, _∙_}
 use Rattle.base.specs.Rows.{lowest}
 use Rattle.mover.specs.Mover.{changes}
-use Rattle.table.specs.Answers.{checkAnswer, moveAnswer, movedTo}
-use Rattle.table.proofs.Replies.{check-zero, move-answers-zero, moved-to}
+use Rattle.table.specs.Answers.{checkAnswer, movedTo}
+use Rattle.table.proofs.Replies.{check-zero, moved-to}
 use Rattle.events.specs.Events.{eventRows}
-use Rattle.events.proofs.Outcomes.{named-fits, stopped-by-check, stopped-by-event, changed-sized, accepted, refused-reply, accepted-reply, new-table}
+use Rattle.events.proofs.Outcomes.{named-fits, stopped-by-check, event-decides, changed-sized, refused-reply, accepted-reply, new-table}
 use Rattle.events.proofs.apply.Statement.{statement}
 use Rattle.events.proofs.apply.Tie as tie
 
@@ -34,7 +34,7 @@ same-length-2 c = search needs
 
 returns-2 : tie.Need-returns-2
 returns-2 c =
-    let m = refused-reply _ _ _ _ _ (stopped-by-event _ _ _ _ (checked-well (c .before .before)) _ (c .before .event-answer .ensures) (c .if2 .taken)) (c .if2 .taken) in
+    let m = refused-reply _ _ _ _ _ (event-decides _ _ _ _ (checked-well (c .before .before)) ∙ sym (c .before .event-answer .ensures)) (c .if2 .taken) in
     (sym (m .0), sym (m .1))
 
 -- past the second the event's rows do not hold
@@ -50,26 +50,13 @@ rearrange-requires c κs = search needs
 same-length-3 : tie.Need-same-length-3
 same-length-3 c = search needs
 
--- and the move answers 0
-move-well : (c : tie.After-rearrange) → c .rearrange .result .answer ≡ 0
-move-well c =
-    let args = c .before .before .before .before .before .before .before .before .before .before .args in
-    ap (λ x. x .answer) (c .rearrange .ensures .0) ∙ ap (λ s. moveAnswer s (args .slots) (args .table .now)) (c .before .before .changed .ensures)
-    ∙ move-answers-zero _ _ _ (changed-sized _ _ (args .event) _ (checked-well (c .before .before .before .before .before)))
-
 returns-3 : tie.Need-returns-3
-returns-3 c = absurd (c .if3 .taken (move-well (c .before .before .before .before)))
-
-same-length-4 : tie.Need-same-length-4
-same-length-4 c = search needs
-
-returns-4 : tie.Need-returns-4
-returns-4 c =
-    let args = c .before .before .before .before .before .before .before .before .before .before .before .before .before .before .args in
-    let at-move = c .before .before .before .before in
-    let check = checked-well (c .before .before .before .before .before .before .before .before .before) in
-    let z = accepted _ _ (args .event) _ check (event-well (c .before .before .before .before .before .before .before)) in
-    let s = c .before .before .before .before .before .before .changed .ensures in
+returns-3 c =
+    let args = c .before .before .before .before .before .before .before .before .before .before .before .before .args in
+    let at-move = c .before .before in
+    let check = checked-well (c .before .before .before .before .before .before .before) in
+    let z = event-decides _ _ (args .event) _ check ∙ event-well (c .before .before .before .before .before) in
+    let s = c .before .before .before .before .changed .ensures in
     let size = changed-sized _ _ (args .event) _ check in
     let to = ap (λ r. movedTo r (args .slots) (args .table .now)) s ∙ moved-to _ _ _ size in
     let n = ap (λ x. x .count) (at-move .rearrange .ensures .0) ∙ ap (changes (args .table .now)) to in
@@ -88,6 +75,4 @@ apply-spec =
     changed-requires
     rearrange-requires
     same-length-3
-    returns-3
-    same-length-4
-    returns-4)
+    returns-3)

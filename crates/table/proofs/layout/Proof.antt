@@ -6,7 +6,7 @@ use lib.ListN.{replicate}
 use Rattle.table.specs.Answers.{moveAnswer, movedTo}
 use Rattle.table.specs.Laws.{Sized}
 use Rattle.table.proofs.Moves.{blank-sized, fresh-moved}
-use Rattle.table.proofs.Replies.{sizes-sized, move-answers-zero, moved-to, layout-refused, layout-done}
+use Rattle.table.proofs.Replies.{sizes-sized, move-accepted, moved-to, layout-refused, layout-done}
 use Rattle.table.proofs.layout.Statement.{statement}
 use Rattle.table.proofs.layout.Tie as tie
 
@@ -32,7 +32,7 @@ returns-2 c =
     let zeros = c .before .before .before .before .before .before .clear .ensures ∙ ap (λ n. replicate n 0) (z .that-long) in
     let m = c .before .before .rearrange .ensures in
     let done = layout-done _ _ _ z in (
-      ap (λ x. x .answer) (m .0) ∙ ap (moveAnswer (args .r) (args .slots)) zeros ∙ move-answers-zero _ _ _ (blank-sized z) ∙ sym (done .0),
+      ap (λ x. x .answer) (m .0) ∙ ap (moveAnswer (args .r) (args .slots)) zeros ∙ move-accepted _ _ _ (blank-sized z) ∙ sym (done .0),
       m .1 ∙ ap (movedTo (args .r) (args .slots)) zeros ∙ moved-to _ _ _ (blank-sized z) ∙ fresh-moved _ _ (blank-sized z) ∙ sym (done .1),
     )
 

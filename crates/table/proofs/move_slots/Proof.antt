@@ -1,23 +1,21 @@
 -- `table::move_slots` meets its contract: the freed slots are as many as the hosts lack, so they are handed over.
 -- Assumes nothing.
 use borrow.Author.Needs.{needs}
-use mathlib.Core.Path.{_≡_, refl, sym, ap, _∙_}
+use mathlib.Core.Path.{_≡_, sym, ap, _∙_}
 use native.Mathlib.Nat.{le-of-eq}
 use lib.ListN.{length}
-use Rattle.base.specs.Tables.{total}
 use Rattle.base.proofs.Entries.{length-table}
 use Rattle.mover.specs.Mover.{quotaOf, lack, lacks, runs}
 use Rattle.mover.specs.Pass.{pass, frees}
 use Rattle.mover.proofs.Laws.{freed-is-frees, freed-is-lacking, moved-is-pass}
 use Rattle.mover.proofs.Runs.{runs-length}
-use Rattle.table.proofs.Turns.{lacks-small}
 use Rattle.table.proofs.move_slots.Statement.{statement}
 use Rattle.table.proofs.move_slots.Tie as tie
 
 tally-requires : tie.Need-tally-requires
 tally-requires c κs =
     let pre = c .before .before .before .before .before .before .pre in
-    (pre .0 .0 .rise, ap length (pre .0 .1) ∙ pre .0 .0 .a-quota-each, pre .1 .0)
+    (pre .0 .0 .rise, ap length (pre .0 .1) ∙ pre .0 .0 .a-quota-each, pre .1)
 
 -- what is left of the room is what the hosts lack
 lacking : (c : tie.After-tally) → let args = c .before .before .before .before .before .before .before .args in c .tally .last .1 .0 ≡ lacks (args .hosts .now) (args .room .now) (args .table .now)
@@ -27,15 +25,15 @@ lacking c = let args = c .before .before .before .before .before .before .before
 counted : (c : tie.After-tally) → let args = c .before .before .before .before .before .before .before .args in c .tally .result ≡ frees (quotaOf (args .hosts .now) (args .room .now)) (args .table .now)
 counted c = let args = c .before .before .before .before .before .before .before .args in c .tally .ensures .0 ∙ ap (λ q. frees (quotaOf (args .hosts .now) q) (args .table .now)) (c .before .before .before .before .before .before .before .pre .0 .1)
 
--- they are as many
-same-count : (c : tie.After-tally) → let args = c .before .before .before .before .before .before .before .args in c .tally .result ≡ total (lacks (args .hosts .now) (args .room .now) (args .table .now))
-same-count c = let args = c .before .before .before .before .before .before .before .args in counted c ∙ freed-is-frees (args .hosts .now) (args .room .now) (args .table .now) ∙ freed-is-lacking _ _ _ (c .before .before .before .before .before .before .before .pre .0 .0)
-
-sum-of-requires : tie.Need-sum-of-requires
-sum-of-requires c κs =
-    let at-tally = c .before .before .before in
-    let pre = at-tally .before .before .before .before .before .before .before .pre in
-    (rw (lacking at-tally) (rw (length-table _ _) (pre .1 .1)), λ i. rw (lacking at-tally) (lacks-small _ _ _ (pre .0 .0) (pre .1 .0) i))
+hand-over-requires : tie.Need-hand-over-requires
+hand-over-requires c κs =
+    let at-tally = c .before .before .before .before .before in
+    let args = at-tally .before .before .before .before .before .before .before .args in
+    let fit = at-tally .before .before .before .before .before .before .before .pre .0 .0 in
+    let long = length-table (length (args .hosts .now)) (lack (args .hosts .now) (args .room .now) (args .table .now)) in (
+      (fit .rise, fit .a-quota-each, ap length (lacking at-tally) ∙ long),
+      rw (lacking at-tally) (le-of-eq (freed-is-frees _ _ _ ∙ freed-is-lacking _ _ _ fit ∙ sym (runs-length _ _ long))),
+    )
 
 same-length : tie.Need-same-length
 same-length c = search needs
@@ -43,36 +41,15 @@ same-length c = search needs
 same-length-2 : tie.Need-same-length-2
 same-length-2 c = search needs
 
-returns : tie.Need-returns
-returns c =
-    let at-tally = c .before .before .before .before .before in
-    absurd (c .if1 .taken (same-count at-tally ∙ sym (c .before .sum-of .ensures ∙ ap total (lacking at-tally))))
-
-hand-over-requires : tie.Need-hand-over-requires
-hand-over-requires c κs =
-    let at-tally = c .before .before .before .before .before .before .before .before in
-    let args = at-tally .before .before .before .before .before .before .before .args in
-    let fit = at-tally .before .before .before .before .before .before .before .pre .0 .0 in
-    let long = length-table (length (args .hosts .now)) (lack (args .hosts .now) (args .room .now) (args .table .now)) in (
-      (fit .rise, fit .a-quota-each, ap length (lacking at-tally) ∙ long),
-      rw (lacking at-tally) (le-of-eq (sym (counted at-tally) ∙ same-count at-tally ∙ sym (runs-length _ _ long))),
-    )
-
 same-length-3 : tie.Need-same-length-3
 same-length-3 c = search needs
 
-same-length-4 : tie.Need-same-length-4
-same-length-4 c = search needs
-
-same-length-5 : tie.Need-same-length-5
-same-length-5 c = search needs
-
-returns-2 : tie.Need-returns-2
-returns-2 c =
-    let at-tally = c .before .before .before .before .before .before .before .before .before .before .before .before .before .before .before in
+returns : tie.Need-returns
+returns c =
+    let at-tally = c .before .before .before .before .before .before .before .before .before .before .before .before in
     let args = at-tally .before .before .before .before .before .before .before .args in
     let handed = c .before .before .before .before .before .before .hand-over .ensures in (
-      (refl, counted at-tally ∙ freed-is-frees _ _ _),
+      counted at-tally ∙ freed-is-frees _ _ _,
       handed ∙ ap (λ n. pass (quotaOf (args .hosts .now) (args .room .now)) (runs (args .hosts .now) n) (args .table .now)) (lacking at-tally) ∙ moved-is-pass (args .hosts .now) (args .room .now) (args .table .now),
     )
 
@@ -81,12 +58,8 @@ move-slots-spec =
     tie.close
     (tie.spec
     tally-requires
-    sum-of-requires
+    hand-over-requires
     same-length
     same-length-2
-    returns
-    hand-over-requires
     same-length-3
-    same-length-4
-    same-length-5
-    returns-2)
+    returns)

@@ -6,8 +6,8 @@ use lib.ListN.{length}
 use lib.Seq.{length-take-le}
 use Rattle.mover.specs.Mover.{moved, freedBelow}
 use Rattle.table.specs.Laws.{Sized}
-use Rattle.table.proofs.Owners.{owners-few, front-owners, front-fits, front-shares, shares-fit, front-fitting}
-use Rattle.table.proofs.Replies.{sizes-sized, slots-few, move-sizes, moves-are, moved-to, move-done}
+use Rattle.table.proofs.Owners.{front-owners, front-fits, front-shares, shares-fit, front-fitting}
+use Rattle.table.proofs.Replies.{sizes-sized, slots-few, move-sizes, moved-to, move-done}
 use Rattle.table.proofs.rearrange.Statement.{statement}
 use Rattle.table.proofs.rearrange.Tie as tie
 
@@ -48,10 +48,8 @@ slice-aggregate-move-slots-3 c = sym (length-take-le _ _ (shares-fit _ (sized (c
 move-slots-requires : tie.Need-move-slots-requires
 move-slots-requires c κs =
     let z = sized (c .before .before .before .before .before .before .before) in
-    let n = c .before .before .before .before .before .before .owner-count .ensures in (
-      (front-fitting _ (z .valid-roster) _ _ n _ (c .before .before .before .before .share-list .ensures) _ (z .that-long), refl),
-      (slots-few z, rw (front-owners _ (z .valid-roster) 0 _ n) (owners-few _ (z .valid-roster))),
-    )
+    let n = c .before .before .before .before .before .before .owner-count .ensures in
+    ((front-fitting _ (z .valid-roster) _ _ n _ (c .before .before .before .before .share-list .ensures) _ (z .that-long), refl), slots-few z)
 
 same-length : tie.Need-same-length
 same-length c = search needs
@@ -64,8 +62,8 @@ returns-2 c =
     let o = front-owners _ (z .valid-roster) 0 _ n in
     let q = front-shares _ (z .valid-roster) _ _ n _ (c .before .before .before .before .before .before .before .before .before .share-list .ensures) in
     let m = c .before .before .before .before .move-slots .ensures in
-    let freed = m .0 .1 ∙ ap₂ (λ h k. freedBelow h k (args .table .now) (length (args .table .now))) o q in (
-      moves-are _ _ _ (m .0 .0) refl ∙ sym (move-done _ _ _ z _ freed),
+    let freed = m .0 ∙ ap₂ (λ h k. freedBelow h k (args .table .now) (length (args .table .now))) o q in (
+      sym (move-done _ _ _ z _ freed),
       m .1 ∙ ap₂ (λ h k. moved h k (args .table .now)) o q ∙ sym (moved-to _ _ _ z),
     )
 
