@@ -1,4 +1,6 @@
 // What every layer cites: sums, counts and lists, the sizes, and the table of refusals.
+#![tactic(auto)]
+
 ghost use Rattle.std.specs.Prelude.{◌≡◌};
 ghost use Rattle.base.specs.Rows.{LowestIsFirst, LowestIsNone};
 ghost use Rattle.base.specs.Sizes.{between, host_fits, rate_fits, slots_fit};

@@ -1,5 +1,7 @@
 // Quotas by the M3 rule: the next slot goes where (slots held + 1) / rate is least, the first place on a tie.
 // The crate knows hosts by their place in a list of rates, and no roster.
+#![tactic(auto)]
+
 ghost use Rattle.std.specs.Prelude.{◌≡◌, true, suc, ◌+◌, ◌*◌, ◌<◌, ◌≤◌, ltb, length, replicate};
 ghost use Rattle.base.specs.Tables.{total};
 ghost use Rattle.quota.specs.Quota.{quotas, within_sizes, quotas_given};
