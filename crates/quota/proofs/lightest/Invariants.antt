@@ -1,0 +1,11 @@
+use Prim.Native.Nat.{◌-◌, ◌≤◌}
+use mathlib.Core.Path.{◌≡◌}
+use Rattle.quota.specs.Greedy.{least}
+use lib.ListN.{length}
+use Rattle.quota.proofs.lightest.Given as goal
+
+abbrev pub invariant-loop-i : goal.invariant-loop-i
+invariant-loop-i l = (l.i ≤ length l.rates) × (l.best ≤ l.i) × (l.best ≡ least l.rates l.held l.i)
+
+abbrev pub decreases-loop-i : goal.decreases-loop-i
+decreases-loop-i l = length l.rates - l.i
