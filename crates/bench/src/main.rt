@@ -1,5 +1,7 @@
 // Workloads for bench/run that read no lines. Each four arguments are a workload's name, how many turns, how many hosts and how many slots.
 // It prints a sum of what came out for each; `stdout` comes from bench/plain.c, never from this program.
+#![tactic(auto)]
+
 ghost use Rattle.std.specs.Prelude.{◌≤◌};
 
 use events::Event;
@@ -8,7 +10,7 @@ use lines::Number;
 use roster::Roster;
 
 // How much work is asked for.
-#[derive(Drop)]
+#[derive(Clone, Copy)]
 struct Task {
     turns: u32,
     hosts: u32,

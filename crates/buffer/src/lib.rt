@@ -1,4 +1,6 @@
 // Every line that a buffer holds, taken one after the other, and what they print.
+#![tactic(auto)]
+
 ghost use Rattle.std.specs.Prelude.{◌≡◌, length, drop};
 ghost use Rattle.printing.specs.Wrote.{wrote, said_at, place_after};
 ghost use Rattle.stream.specs.Meaning.{at_end};
@@ -10,7 +12,7 @@ use lines::Due;
 use stream::State;
 
 // What running a buffer leaves: the state, the place of the next line, and how long the text is that was put into the output.
-#[derive(Drop)]
+#[derive(Clone, Copy)]
 pub struct Ran {
     pub state: State,
     pub next: usize,

@@ -5,7 +5,7 @@ use crate::{print, reply};
 use libc::STDIN_FILENO;
 
 // Where a program stands: the place in the output, how much of the buffer is kept, and whether the input has ended.
-#[derive(Drop)]
+#[derive(Clone, Copy)]
 pub(crate) struct Stand {
     at: usize,
     kept: usize,

@@ -7,7 +7,7 @@ use report::HostRecord;
 use roster::Roster;
 
 // What a report leaves: its answer and the list.
-#[derive(Drop)]
+#[derive(Clone, Copy)]
 struct Reported {
     answer: u32,
     list: [HostRecord; 300],

@@ -1,5 +1,7 @@
 // Reads lines on standard input, each of which sets a part of the memory or calls a function of the library, and prints each reply with the memory after it.
 // Another program can read the same lines: then replies and lent memory are compared byte by byte.
+#![tactic(auto)]
+
 mod dump;
 mod input;
 mod list;

@@ -109,7 +109,7 @@ fn find(words: &[u32], table: &[u16], out: &mut [u8], at: usize, line: &[u8]) ->
 }
 
 // What a line calls.
-#[derive(Drop)]
+#[derive(Clone, Copy)]
 enum Call {
     Check,
     Layout,

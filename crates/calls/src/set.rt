@@ -51,7 +51,7 @@ fn set_record(words: &mut [u32], line: &[u8]) {
 }
 
 // What a line sets.
-#[derive(Drop)]
+#[derive(Clone, Copy)]
 enum Setting {
     Host,
     Count,

@@ -1,4 +1,6 @@
 // Events: a host is added, dropped or given a new rate; the roster and the lent table follow. And the forecast of one host's share.
+#![tactic(auto)]
+
 ghost use Rattle.std.specs.Prelude.{◌≡◌, true, ◌≤◌, pos, ◌-ℤ◌};
 ghost use Rattle.base.specs.Rows.{lowest};
 ghost use Rattle.base.specs.Sizes.{host_fits, slots_fit};
@@ -12,7 +14,7 @@ ghost use Rattle.events.specs.Laws.{ChecksSuffice, NeverFourteen};
 use roster::Roster;
 
 // A change of the roster, with the host it names. Numbers are wide enough to be out of range.
-#[derive(Drop)]
+#[derive(Clone, Copy)]
 pub enum Event {
     Add { host: u32, rate: u32 },
     Drop { host: u32 },
@@ -20,7 +22,7 @@ pub enum Event {
 }
 
 // What an event answers: the number, the roster after it, and how many slots changed owner.
-#[derive(Drop)]
+#[derive(Clone, Copy)]
 pub struct Reply {
     pub answer: u32,
     pub roster: Roster,
@@ -28,7 +30,7 @@ pub struct Reply {
 }
 
 // What a forecast answers: the number, and the change of the host's quota.
-#[derive(Drop)]
+#[derive(Clone, Copy)]
 pub struct Foreseen {
     pub answer: u32,
     pub change: i32,

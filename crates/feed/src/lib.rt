@@ -1,4 +1,6 @@
 // Feeding a stream from a buffer: the next line of it taken, and what the end of the input means, both against the meaning of the whole input.
+#![tactic(auto)]
+
 ghost use Rattle.std.specs.Prelude.{◌≡◌, ◌≤◌, ◌+◌, min, length, drop};
 ghost use Rattle.stream.specs.Steps.{next_number};
 ghost use Rattle.stream.specs.Meaning.{may_begin, at_end};
@@ -10,7 +12,7 @@ use lines::Due;
 use stream::{Said, State};
 
 // What the next line leaves: the state, what is printed, and the place behind it; the same place where only a piece of a line is left.
-#[derive(Drop)]
+#[derive(Clone, Copy)]
 pub struct Fed {
     pub state: State,
     pub said: Said,
@@ -18,7 +20,7 @@ pub struct Fed {
 }
 
 // What the next line leaves that needs no roster: whether there is one, the line due after it, what is printed, and the place behind it.
-#[derive(Drop)]
+#[derive(Clone, Copy)]
 pub struct Passing {
     pub taken: bool,
     pub due: Due,
@@ -63,7 +65,7 @@ fn behind(end: usize, size: usize) -> usize
 }
 
 // Where the line that begins at a place stands in a buffer: whether it can be taken, its end, and the place behind it.
-#[derive(Drop)]
+#[derive(Clone, Copy)]
 struct Span {
     there: bool,
     end: usize,

@@ -1,11 +1,13 @@
 // Finding a host: the FNV-1a hash of a key, the slot of a key, and the owner at that slot. It says what the table says, and checks no roster.
+#![tactic(auto)]
+
 ghost use Rattle.std.specs.Prelude.{◌≡◌, ◌*◌, ◌%◌, ◌^◌, length};
 ghost use Rattle.find.specs.Hash.{fnv32, stepped, hash_of};
 ghost use Rattle.find.specs.Reply.{length_fits, found, refusal, view_of, found_in};
 ghost use Rattle.find.specs.Laws.{HashIsWord, HashGrows, RowsRise, FoundIsOwner, RefusedIsNothing, FindFixed, ViewFixed, FindInFixed};
 
 // A find's reply: the answer, and with 0 the slot and its owner.
-#[derive(Drop)]
+#[derive(Clone, Copy)]
 pub struct Found {
     pub answer: u32,
     pub slot: usize,
@@ -13,7 +15,7 @@ pub struct Found {
 }
 
 // The reading view: a lent table and the length that its maker states.
-#[derive(Drop)]
+#[derive(Clone, Copy)]
 pub struct View<'a> {
     pub owners: &'a [u16],
     pub length: usize,

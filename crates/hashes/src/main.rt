@@ -1,5 +1,7 @@
 // Prints the 32-bit FNV-1a hashes of the strings that its authors, Fowler, Noll and Vo, publish with their values in their test suite, and of two long keys.
 // `stdout` holds the published values; those of the long keys are from a separate program that follows the published rule with whole numbers and a remainder.
+#![tactic(auto)]
+
 use libc::STDOUT_FILENO;
 
 // A line: what the key is called, and its hash as eight hexadecimal digits.

@@ -1,5 +1,7 @@
 // Serves each file that its arguments name, under a line with the file's name: farmtable's own library function over many inputs.
 // `stdout` comes from the second implementation under tests/, never from this program.
+#![tactic(auto)]
+
 use libc::STDOUT_FILENO;
 
 // Serves the file that an argument names.

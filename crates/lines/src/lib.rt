@@ -1,4 +1,6 @@
 // The reader of the program's lines: a number, a keyed line, and what one line brings where a line of some kind is due.
+#![tactic(auto)]
+
 ghost use Rattle.std.specs.Prelude.{◌≡◌};
 ghost use Rattle.lines.specs.Numbers as numbers;
 ghost use Rattle.lines.specs.Lines as lines;
@@ -7,14 +9,14 @@ ghost use Rattle.lines.specs.Laws.{NumberSays, KeyAfterEquals, MalformedCarries,
 use events::Event;
 
 // What a text says as a number.
-#[derive(Drop)]
+#[derive(Clone, Copy)]
 pub enum Number {
     Is(u32),
     Spoilt,
 }
 
 // What line is due: the slot count, the first line of a record, or a line inside a record, with the host that came before it.
-#[derive(Drop)]
+#[derive(Clone, Copy)]
 pub enum Due {
     Slots,
     Opening,
@@ -27,7 +29,7 @@ pub enum Due {
 }
 
 // A record: a change, a find or a comment. The key of a find is handed back beside it, by `key`.
-#[derive(Drop)]
+#[derive(Clone, Copy)]
 pub enum Record {
     Change(Event),
     Find,
@@ -35,7 +37,7 @@ pub enum Record {
 }
 
 // What a line brings: the slot count, a part of a record with the line due after it, or a record's end; or 13 with the line's number.
-#[derive(Drop)]
+#[derive(Clone, Copy)]
 pub enum Read {
     Count(u32),
     Part(Due),

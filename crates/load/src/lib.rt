@@ -1,4 +1,6 @@
 // The load question: can the hosts of a roster carry a load, in some division of the slots among them.
+#![tactic(auto)]
+
 ghost use Rattle.std.specs.Prelude.{◌≡◌, ℕ, ◌<◌, ◌≤◌, length};
 ghost use Rattle.base.specs.Tables.{at, total};
 ghost use Rattle.load.specs.Load.{most_kept, carries_all};
@@ -8,7 +10,7 @@ ghost use Rattle.load.specs.Laws.{RowsRise, CarriesIsDivision, LessIsCarried, Qu
 use roster::Roster;
 
 // The reply: the answer, and with 0 whether the load is carried.
-#[derive(Drop)]
+#[derive(Clone, Copy)]
 pub struct Carried {
     pub answer: u32,
     pub carries: bool,

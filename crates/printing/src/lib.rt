@@ -1,4 +1,6 @@
 // Printing: what a stream says, put as text at a place of a lent output.
+#![tactic(auto)]
+
 ghost use Rattle.std.specs.Prelude.{◌≡◌, ◌+◌, ◌≤◌, length};
 ghost use Rattle.stream.specs.Text.{decimal, printed_line, text_of};
 ghost use Rattle.printing.specs.Wrote.{wrote, room_for, place_after, said_at};

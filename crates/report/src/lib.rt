@@ -1,4 +1,6 @@
 // The report: a lent list filled with one record for each host of a roster, in its order.
+#![tactic(auto)]
+
 ghost use Rattle.std.specs.Prelude.{◌≡◌, ◌<◌, length};
 ghost use Rattle.report.specs.Report.{answer_of, reported};
 ghost use Rattle.report.specs.Plan.{record_at, Planned};
@@ -7,7 +9,7 @@ ghost use Rattle.report.specs.Laws.{RowsRise, OneRecordAHost, RefusedUnwritten, 
 use roster::Roster;
 
 // A host as the report tells it.
-#[derive(Drop)]
+#[derive(Clone, Copy)]
 pub struct HostRecord {
     pub number: u16,
     pub rate: u32,
@@ -15,7 +17,7 @@ pub struct HostRecord {
 }
 
 // What a report is to write, worked out before anything is written: how many records, and the lists that they are read from.
-#[derive(Drop)]
+#[derive(Clone, Copy)]
 struct Plan {
     answer: u32,
     end: usize,

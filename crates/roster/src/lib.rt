@@ -1,4 +1,6 @@
 // The roster of hosts, by value: up to 256 host numbers, their rates, and a count.
+#![tactic(auto)]
+
 ghost use Rattle.std.specs.Prelude.{◌≡◌, true, [], ◌∷◌, ◌++◌, ℕ, ◌+◌, ◌<◌, ◌≤◌, length, take};
 ghost use Rattle.base.specs.Tables.{all, at};
 ghost use Rattle.base.specs.Lists.{insert_at, remove_at};
@@ -10,7 +12,7 @@ ghost use Rattle.roster.specs.Laws.{NoSecondAdd, NoAbsentDrop, NoAbsentRate};
 ghost use Rattle.roster.specs.Places.{place_right, right_at};
 
 // Host numbers have the width of a table's owners, with which they are compared; rates go to a million.
-#[derive(Drop)]
+#[derive(Clone, Copy)]
 pub struct Roster {
     pub hosts: [u16; 256],
     pub rates: [u32; 256],

@@ -1,4 +1,6 @@
 // Serving an input: it is read in pieces through a fixed buffer, every line of it is run, and what is printed is written before more is read.
+#![tactic(auto)]
+
 ghost use Rattle.std.specs.Prelude.{◌≡◌, false, ◌≤◌, ◌<◌, length, replicate};
 ghost use Rattle.serving.specs.Served.{Faithful};
 ghost use Rattle.serving.specs.Turns.{Holding, Led, ReadOn};
@@ -6,14 +8,14 @@ ghost use Rattle.serving.specs.Turns.{Holding, Led, ReadOn};
 use stream::State;
 
 // Where an input is read and where what it prints is written, as file descriptors.
-#[derive(Drop)]
+#[derive(Clone, Copy)]
 struct Ends {
     input: i32,
     output: i32,
 }
 
 // What a turn leaves: the state, how many bytes of the buffer are held, whether there is a next turn, and, at the end, whether nothing read is left to take.
-#[derive(Drop)]
+#[derive(Clone, Copy)]
 struct Step {
     state: State,
     held: usize,
@@ -22,7 +24,7 @@ struct Step {
 }
 
 // How serving an input ended: the last state, and whether nothing read is left to take. A write that fails may leave some.
-#[derive(Drop)]
+#[derive(Clone, Copy)]
 pub struct Ended {
     pub state: State,
     pub done: bool,

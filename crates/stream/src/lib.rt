@@ -1,4 +1,6 @@
 // A stream of the program's lines: what each whole line does to the farm and says, with the library called for it.
+#![tactic(auto)]
+
 ghost use Rattle.std.specs.Prelude.{◌≡◌, ◌++◌, min, take, drop};
 ghost use Rattle.events.specs.Events.{reply_of, table_after};
 ghost use Rattle.find.specs.Reply.{found};
@@ -14,7 +16,7 @@ use lines::{Due, Read, Record};
 use roster::Roster;
 
 // Where a stream stands: what line is due, the slot count, the roster, how many lines were taken, and whether it has stopped.
-#[derive(Drop)]
+#[derive(Clone, Copy)]
 pub struct State {
     pub due: Due,
     pub slots: u32,
@@ -24,7 +26,7 @@ pub struct State {
 }
 
 // What is printed: nothing, a change's reply, a find's reply, or 13 with a line's number.
-#[derive(Drop)]
+#[derive(Clone, Copy)]
 pub enum Said {
     Nothing,
     Moved { answer: u32, moved: u32 },
@@ -33,14 +35,14 @@ pub enum Said {
 }
 
 // What a line leaves: the state after it, and what is printed.
-#[derive(Drop)]
+#[derive(Clone, Copy)]
 pub struct Taken {
     pub state: State,
     pub said: Said,
 }
 
 // What a line leaves that needs no roster: whether it is one, the line due after it, and what is printed.
-#[derive(Drop)]
+#[derive(Clone, Copy)]
 pub struct Passed {
     pub taken: bool,
     pub due: Due,

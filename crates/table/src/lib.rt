@@ -1,4 +1,6 @@
 // The table of slots: a lent run of 16-bit owners. Does it belong to a roster, a fresh layout, and the move to a roster's shares.
+#![tactic(auto)]
+
 ghost use Rattle.std.specs.Prelude.{◌≡◌, true, not, ◌≤◌, ◌<◌, length, replicate};
 ghost use Rattle.base.specs.Tables.{first, at};
 ghost use Rattle.base.specs.Lists.{padded};
@@ -17,14 +19,14 @@ ghost use Rattle.table.specs.Seat.{Seat, NextShort};
 use roster::Roster;
 
 // What the check of a table answers: the number, and the slot that goes with 3.
-#[derive(Drop)]
+#[derive(Clone, Copy)]
 pub struct Checked {
     pub answer: u32,
     pub slot: usize,
 }
 
 // What a move answers: the number, and how many slots changed owner.
-#[derive(Drop)]
+#[derive(Clone, Copy)]
 pub struct Moved {
     pub answer: u32,
     pub count: u32,

@@ -1,5 +1,7 @@
 // Runs farm F of document 01, Farms to try, at 20 slots through its drop, its drop and add again, and its new rate, and prints the table after each.
 // `stdout` is written by hand from the document: hosts 1 to 4 with rates 15, 23, 31, 31 hold 3, 5, 6 and 6 slots of a fresh layout.
+#![tactic(auto)]
+
 use events::Event;
 use libc::STDOUT_FILENO;
 use roster::Roster;

@@ -1,0 +1,18 @@
+-- `roster::is_listed` meets its contract: the numbers of a valid roster rise, so the search finds what is there.
+use borrow.Author.Rules.{rules}
+use mathlib.Core.Path.{sym}
+use native.Mathlib.Omega.{arith}
+use Rattle.roster.proofs.Facts.{facts, hosts_rise, length_hosts}
+use Rattle.roster.proofs.is_listed.Goals as goal
+
+pub slice_bounds-hosts-end : goal.slice_bounds-hosts-end
+slice_bounds-hosts-end c = let f = facts _ c.requires in omega (arith, f.few, f.hosts_long)
+
+pub slice_bounds-is_on-end : goal.slice_bounds-is_on-end
+slice_bounds-is_on-end c = sym (length_hosts _ (facts _ c.requires))
+
+pub is_on-requires : goal.is_on-requires
+is_on-requires c = search rules
+
+pub returns : goal.returns
+returns c = c.is_on.ensures (hosts_rise _ (facts _ c.requires))
