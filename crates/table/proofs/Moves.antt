@@ -10,7 +10,7 @@ use lib.Dec.{leb}
 use lib.ListN.{length, replicate, length-replicate, get_or-replicate}
 use lib.Seq.{ext_get_or}
 use borrow.Author.Tests.{le-leb, leb-true, eq-eqb, ne_eqb, eqb-true}
-use Rattle.base.specs.Tables.{count, at}
+use Rattle.base.specs.Tables.{at}
 use Rattle.base.proofs.Sums.{count-all, count_none}
 use Rattle.base.proofs.Entries.{is_table, length-table, at_table}
 use Rattle.base.proofs.Tests.{by_test, never, and_left, all-at, all_of}

@@ -21,7 +21,7 @@ use Rattle.roster.specs.Roster.{valid, is_on}
 use Rattle.mover.specs.Mover.{changes}
 use Rattle.table.specs.declared.Checked.{Checked}
 use Rattle.table.specs.declared.Moved.{Moved}
-use Rattle.table.specs.Table.{belongs, known, stranger, owners, fresh, rearranged, freed_slots}
+use Rattle.table.specs.Table.{belongs, stranger, owners, fresh, rearranged, freed_slots}
 use Rattle.table.specs.Answers.{size_rows, table_rows, check_answer, checked, layout_answer, laid_out, move_answer, moved_to, move_reply}
 use Rattle.table.specs.Laws.{Sized, RowsRise, CheckFixed, LayoutFixed, MoveFixed}
 use Rattle.table.proofs.Owners.{known_owner, belongs_exact}

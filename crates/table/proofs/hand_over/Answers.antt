@@ -1,0 +1,115 @@
+-- `table::hand_over` meets its contract. The loop's invariant is `Handed`; the measure is what is left of the table.
+use native.Mathlib.Omega.{arith}
+use Prim.Native.Nat.{◌<◌}
+use mathlib.Core.Path.{subst}
+use lib.ListN.{length}
+use Rattle.base.specs.Tables.{at}
+use Rattle.table.specs.Seat.{Seat}
+use Rattle.table.proofs.Turns.{hand_start, untouched, hand_kept, some_short, hand_freed, hand_done}
+use Rattle.table.proofs.hand_over.Goals as goal
+use Rattle.table.proofs.hand_over.Goals.{After-next_short-next, After-seat-p}
+
+pub loop-i-init : goal.loop-i-init
+loop-i-init c =
+    let pre = c.requires in
+    hand_start _ _ _ _ pre.known.1 pre.known.2 pre.enough
+
+pub offset_bounds-table-i : goal.offset_bounds-table-i
+offset_bounds-table-i c = omega arith
+
+pub bounds-table-i : goal.bounds-table-i
+bounds-table-i c = omega arith
+
+pub seat-p-requires : goal.seat-p-requires
+seat-p-requires c = (c.requires.known.0, c.loop-i.invariant.a_room_each)
+
+-- where this turn stands: the slot is within the table
+within : (c : After-seat-p) → c.loop-i.i < length c.args.table.now
+within c = omega (arith, c.loop-i-test.true, c.loop-i.invariant.as_long)
+
+-- the seat found is that of the slot's owner at the start
+seated : (c : After-seat-p) →
+    let args = c.args in
+    Seat args.hosts.now c.loop-i.room (at args.table.now c.loop-i.i) c.seat-p.result
+seated c =
+    let rises = c.requires.known.0 in
+    subst (λ o. Seat c.args.hosts.now c.loop-i.room o c.seat-p.result) (untouched rises c.loop-i.invariant (within c)) c.seat-p.ensures
+
+-- and where it has none, some host is short
+short-place : (c : After-next_short-next) → c.next_short-next.result < length c.args.hosts.now
+short-place c =
+    let rises = c.requires.known.0 in
+    some_short rises c.loop-i.invariant ((let it : (c.loop-i.i < length c.args.table.now) = omega (arith, c.loop-i-test.true, c.loop-i.invariant.as_long) in it)) _ ((let it : (let args = c.args in Seat args.hosts.now c.loop-i.room (at args.table.now c.loop-i.i) c.seat-p.result) = let rises = c.requires.known.0 in subst (λ o. Seat c.args.hosts.now c.loop-i.room o c.seat-p.result) (untouched rises c.loop-i.invariant ((let it : (c.loop-i.i < length c.args.table.now) = omega (arith, c.loop-i-test.true, c.loop-i.invariant.as_long) in it))) c.seat-p.ensures in it)) c.if-p-hosts.false _ c.next_short-next.ensures
+
+pub offset_bounds-room-p : goal.offset_bounds-room-p
+offset_bounds-room-p c = omega arith
+
+pub bounds-room-p : goal.bounds-room-p
+bounds-room-p c = omega arith
+
+pub overflow_sub-room : goal.overflow_sub-room
+overflow_sub-room c = c.seat-p.ensures.has_room c.if-p-hosts.true
+
+pub bounds-room-p-then-p-hosts : goal.bounds-room-p-then-p-hosts
+bounds-room-p-then-p-hosts c = omega arith
+
+pub overflow_add-i : goal.overflow_add-i
+overflow_add-i c = omega arith
+
+pub loop-i-smaller-then-p-hosts : goal.loop-i-smaller-then-p-hosts
+loop-i-smaller-then-p-hosts c = omega arith
+
+pub loop-i-preserved-then-p-hosts : goal.loop-i-preserved-then-p-hosts
+loop-i-preserved-then-p-hosts c =
+    hand_kept c.requires.known.0 c.loop-i.invariant (within (goal.at.loop-i-preserved-then-p-hosts c).After-seat-p) _ (seated (goal.at.loop-i-preserved-then-p-hosts c).After-seat-p) c.if-p-hosts.true
+
+pub next_short-next-requires : goal.next_short-next-requires
+next_short-next-requires c = let inv = c.loop-i.invariant in omega (arith, inv.cursor, inv.a_lack_each)
+
+pub offset_bounds-hosts-next : goal.offset_bounds-hosts-next
+offset_bounds-hosts-next c = omega (arith, short-place c)
+
+pub bounds-hosts-next : goal.bounds-hosts-next
+bounds-hosts-next c = short-place (goal.at.bounds-hosts-next c).After-next_short-next
+
+pub offset_bounds-table-i-in-loop-i : goal.offset_bounds-table-i-in-loop-i
+offset_bounds-table-i-in-loop-i c = omega arith
+
+pub bounds-table-i-in-loop-i : goal.bounds-table-i-in-loop-i
+bounds-table-i-in-loop-i c = omega arith
+
+pub offset_bounds-short-next : goal.offset_bounds-short-next
+offset_bounds-short-next c = omega (arith, short-place (goal.at.offset_bounds-short-next c).After-next_short-next)
+
+pub bounds-short-next : goal.bounds-short-next
+bounds-short-next c = omega (arith, short-place (goal.at.bounds-short-next c).After-next_short-next, c.loop-i.invariant.a_lack_each)
+
+pub overflow_sub-short : goal.overflow_sub-short
+overflow_sub-short c =
+    let inv = c.loop-i.invariant in
+    c.next_short-next.ensures.short (omega (arith, short-place (goal.at.overflow_sub-short c).After-next_short-next, inv.a_lack_each))
+
+pub bounds-short-next-in-loop-i : goal.bounds-short-next-in-loop-i
+bounds-short-next-in-loop-i c = omega (arith, short-place (goal.at.bounds-short-next-in-loop-i c).After-next_short-next, c.loop-i.invariant.a_lack_each)
+
+pub overflow_add-i-in-loop-i : goal.overflow_add-i-in-loop-i
+overflow_add-i-in-loop-i c = omega arith
+
+pub loop-i-smaller : goal.loop-i-smaller
+loop-i-smaller c = omega arith
+
+pub loop-i-preserved : goal.loop-i-preserved
+loop-i-preserved c =
+    hand_freed c.requires.known.0 c.loop-i.invariant (within (goal.at.loop-i-preserved c).After-seat-p) _ (seated (goal.at.loop-i-preserved c).After-seat-p) c.if-p-hosts.false _ c.next_short-next.ensures
+
+pub shape_of-room : goal.shape_of-room
+shape_of-room c = omega arith
+
+pub shape_of-short : goal.shape_of-short
+shape_of-short c = omega arith
+
+pub shape_of-table : goal.shape_of-table
+shape_of-table c = omega arith
+
+pub returns : goal.returns
+returns c = hand_done c.loop-i.invariant (omega arith)
