@@ -12,7 +12,6 @@ use lib.ListN.{length}
 use borrow.Author.Tests.{ne_eqb, not-false}
 use Rattle.base.specs.Rows.{Row, lowest}
 use Rattle.base.specs.Sizes.{host_fits, slots_fit}
-use Rattle.base.specs.Tables.{at}
 use Rattle.base.proofs.Answers.{lowest_stop, lowest_go}
 use Rattle.base.proofs.Tests.{by_test, or_left, or_right}
 use Rattle.roster.specs.declared.Roster.{Roster}

@@ -1,6 +1,4 @@
 -- `events::less` meets its contract: numbers up to 16,384 differ by as much at most, which 32 bits hold with a sign.
--- Assumes nothing.
-use borrow.Author.Rules.{rules}
 use native.Mathlib.Omega.{arith}
 use Prim.Native.Nat.{ℕ, zero, suc, ◌≤◌}
 use mathlib.Core.Path.{◌≡◌, ap₂, ◌∙◌}
@@ -11,14 +9,7 @@ use lib.Signed.{mag}
 use mir.Val.{SFits, to_z}
 use mir.ValLaws.{to_z_pos, to_z-of_z}
 use Rattle.base.proofs.Tests.{by_test}
-use Rattle.events.proofs.less.Statement.{statement}
-use Rattle.events.proofs.less.Tie as tie
-
-cast-result : tie.Need-overflow-cast-result
-cast-result c = search rules
-
-cast-result-2 : tie.Need-overflow-cast-result-2
-cast-result-2 c = search rules
+use Rattle.events.proofs.less.Goals as goal
 
 -- each number is its own signed one
 signed : (n : ℕ) → n ≤ 16384 → to_z w32 n ≡ pos n
@@ -32,11 +23,8 @@ small a (suc b) la lb = by_test (ltb a (suc b)) (λ t. rw t (omega arith)) (λ f
 fits : (a b : ℕ) → a ≤ 16384 → b ≤ 16384 → SFits w32 (to_z w32 a -ℤ to_z w32 b)
 fits a b la lb = rw (signed a la, signed b lb) (record { sfits = let s = small a b la lb in omega arith })
 
-sub-result : tie.Need-overflow-sub-result
-sub-result c = fits _ _ c.requires.0 c.requires.1
+pub overflow_sub-result : goal.overflow_sub-result
+overflow_sub-result c = fits _ _ c.requires.0 c.requires.1
 
-returns : tie.Need-returns
+pub returns : goal.returns
 returns c = to_z-of_z w32 _ (fits _ _ c.requires.0 c.requires.1) ∙ ap₂ ◌-ℤ◌ (signed _ c.requires.0) (signed _ c.requires.1)
-
-pub less-spec : {M : Type 1} → statement M
-less-spec = tie.close (tie.spec cast-result cast-result-2 sub-result returns)
