@@ -54,6 +54,9 @@ module _ (table : List ℕ) (slots : ℕ) (key : List ℕ) where
   unfolding found
   found_key t l = rw (answer_key t l)
 
+-- the whole reply at each row, for the proof of `find`
+pub ruleset reply_rows = (found-length, found_key, found_nobody, found-done)
+
 -- a length that fits is one that a hash can be taken by, and the table's own
 module _ (stated own : ℕ) (t : length_fits stated own ≡ true) where
   pub some_slots : 0 < stated

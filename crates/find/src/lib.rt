@@ -78,6 +78,7 @@ fn refused(number: u32) -> Found
 }
 
 // The host for a key in a table of a stated length.
+#[tactic(auto, using(crate::proofs::Replies::reply_rows))]
 pub fn find(table: &[u16], stated: usize, key: &[u8]) -> Found
     ensures { result ≡ found table.now stated key.now }
 {
