@@ -2,8 +2,9 @@
 -- Assumes nothing.
 use mathlib.Core.Path.{◌≡◌, refl, sym, ap, ◌∙◌}
 use mathlib.Core.List.{List, [], ◌∷◌, ◌++◌, append-nil}
-use Prim.Native.Nat.{ℕ, zero, suc, ◌≤◌, ◌<◌}
+use Prim.Native.Nat.{ℕ, zero, suc, ◌+◌, ◌≤◌, ◌<◌}
 use native.Mathlib.Nat.{not-suc-le-zero, le_of_suc-le-suc, le_of_lt, le_of_eq}
+use native.Mathlib.Numerals.{add-one}
 use native.Mathlib.Omega.{arith}
 use lib.ListN.{length, drop, set, get_or, length-set, drop_of_length-le}
 use lib.Seq.{drop-cons, set_at, append_snoc}
@@ -44,6 +45,11 @@ over (suc n) f l = set (over n f l) n (f n)
 pub over_none : (f : ℕ → HostRecord) (l : List HostRecord) → over 0 f l ≡ l
 unfolding over
 over_none f l = refl
+
+-- one place more
+pub over_next : (n : ℕ) (f : ℕ → HostRecord) (l now : List HostRecord) (v : HostRecord) → now ≡ over n f l → v ≡ f n → set now n v ≡ over (n + 1) f l
+unfolding over
+over_next n f l now v e h = rw (add-one n, e, h)
 
 pub length_over : (n : ℕ) (f : ℕ → HostRecord) (l : List HostRecord) → length (over n f l) ≡ length l
 unfolding over
