@@ -2,19 +2,13 @@
 -- Assumes nothing.
 use mathlib.Core.Path.{◌≡◌, refl, sym, ◌∙◌}
 use mathlib.Core.Bool.{true, false, true≢false}
-use mathlib.Core.List.{List, [], ◌∷◌}
-use mathlib.Core.Logic.{⊎_elim}
+use mathlib.Core.List.{List}
 use Prim.Native.Nat.{ℕ}
-use native.Mathlib.Omega.{arith}
-use denote.Enum.Declared.{tag_of}
-use types.Run.{OneOf}
 use Rattle.lines.specs.declared.Record.{Record}
 use Rattle.lines.specs.declared.Record.TheVariants.{Change, Find, Comment}
 use Rattle.lines.specs.declared.Read.{Read}
 use Rattle.lines.specs.declared.Read.TheVariants.{Count, Part, Whole, Malformed}
 use Rattle.lines.specs.Lines.{read_line}
-use Rattle.lines.specs.contracts.Record as records
-use Rattle.lines.specs.contracts.Read as reads
 use Rattle.stream.specs.declared.State.{State}
 use Rattle.stream.specs.Steps.{next_number, goes_on, does, owners_done, takes, owners_after}
 use Rattle.stream.specs.Passing.{not_passed, passed_find, passed, passes}
@@ -23,23 +17,10 @@ use Rattle.stream.proofs.Turns.{turn_says, turn_owners}
 
 module _ (slots : ℕ) (owners line : List ℕ) where
   -- what no find is needs the roster
-  pub no_find_passed : (w : Record) → OneOf (0 ∷ 2 ∷ []) (tag_of records.the_type w) → passed_find slots owners line w ≡ not_passed
-  no_find_passed (Change event) k = refl
-  no_find_passed Find k = ⊎_elim (λ e. absurd (omega arith)) (λ e. absurd (omega arith)) k
-  no_find_passed Comment k = refl
-
-  -- a slot count and a malformed line, by the places of their cases
-  pub count-passed : (r : Read) → tag_of reads.the_type r ≡ 0 → passed slots owners line r ≡ not_passed
-  count-passed (Count count) e = refl
-  count-passed (Part next) e = absurd (omega arith)
-  count-passed (Whole whole) e = absurd (omega arith)
-  count-passed (Malformed number) e = refl
-
-  pub malformed_passed : (r : Read) → tag_of reads.the_type r ≡ 3 → passed slots owners line r ≡ not_passed
-  malformed_passed (Count count) e = refl
-  malformed_passed (Part next) e = absurd (omega arith)
-  malformed_passed (Whole whole) e = absurd (omega arith)
-  malformed_passed (Malformed number) e = refl
+  pub no_find_passed : (w : Record) → (w ≡ Find → ⊥) → passed_find slots owners line w ≡ not_passed
+  no_find_passed (Change event) other = refl
+  no_find_passed Find other = absurd (other refl)
+  no_find_passed Comment other = refl
 
 module _ (s : State) (owners line : List ℕ) where
   does-passed : (r : Read) → (passed s.slots owners line r).taken ≡ true →

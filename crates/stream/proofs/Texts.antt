@@ -12,7 +12,7 @@ use lib.ListN.{length, length-append, get_or-append}
 use Rattle.base.specs.Sizes.{between}
 use Rattle.base.specs.Tables.{at}
 use Rattle.base.proofs.Tests.{by_test, and_both}
-use Rattle.lines.specs.Numbers.{is_digit, all_digits, well_sized, is_number, value_from, number_of}
+use Rattle.lines.specs.Numbers.{is_digit, all_digits, well_sized, is_number, with_digit, value_from, number_of}
 use Rattle.stream.specs.declared.Said.TheVariants.{Nothing, Moved, Owner, Wrong}
 use Rattle.stream.specs.Text.{decimal_within, answer_name, moved_name, slot_name, host_name, line_name, printed_line}
 use Rattle.stream.specs.Laws.{AnswerFirst, DecimalReads}
@@ -35,7 +35,7 @@ digits_append (byte ∷ a) b p q = by_test (is_digit byte) (λ t. rw t (digits_a
 value_append : (v : ℕ) (a b : List ℕ) → value_from v (a ++ b) ≡ value_from (value_from v a) b
 unfolding value_from
 value_append v [] b = refl
-value_append v (byte ∷ a) b = value_append _ a b
+value_append v (byte ∷ a) b = value_append (with_digit v byte) a b
 
 -- decimal text --------------------------------------------------------------------------------
 

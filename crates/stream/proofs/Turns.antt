@@ -2,27 +2,17 @@
 -- Assumes nothing.
 use mathlib.Core.Path.{◌≡◌, refl}
 use mathlib.Core.Bool.{false}
-use mathlib.Core.List.{List, [], ◌∷◌}
-use mathlib.Core.Logic.{⊎_elim}
+use mathlib.Core.List.{List}
 use Prim.Native.Nat.{ℕ}
-use native.Mathlib.Omega.{arith}
-use denote.Enum.Declared.{tag_of}
-use types.Run.{OneOf}
 use Rattle.lines.specs.declared.Record.{Record}
 use Rattle.lines.specs.declared.Record.TheVariants.{Change, Find, Comment}
+use Rattle.events.specs.declared.Event.{Event}
 use Rattle.lines.specs.declared.Read.{Read}
 use Rattle.lines.specs.Lines.{read_line}
-use Rattle.lines.specs.contracts.Record as records
 use Rattle.stream.specs.declared.State.{State}
 use Rattle.stream.specs.declared.Said.TheVariants.{Nothing}
 use Rattle.lines.specs.declared.Due.TheVariants.{Opening}
 use Rattle.stream.specs.Steps.{next_number, goes_on, asked, answered, owners_answered, does, owners_done, takes, owners_after}
-
--- a find, by the place of its case
-pub is_find : (w : Record) → tag_of records.the_type w ≡ 1 → w ≡ Find
-is_find (Change event) e = absurd (omega arith)
-is_find Find e = refl
-is_find Comment e = absurd (omega arith)
 
 module _ (s : State) (owners line : List ℕ) where
   -- a line taken is what it brings, done
@@ -35,18 +25,18 @@ module _ (s : State) (owners line : List ℕ) where
   turn_owners r on e = rw (on, e)
 
   -- a comment, where no find stands
-  pub no_find : (w : Record) → OneOf (0 ∷ 2 ∷ []) (tag_of records.the_type w) → asked s owners line w ≡ record { state = goes_on s Opening; said = Nothing }
-  no_find (Change event) k = refl
-  no_find Find k = ⊎_elim (λ e. absurd (omega arith)) (λ e. absurd (omega arith)) k
-  no_find Comment k = refl
+  pub no_find : (w : Record) → (w ≡ Find → ⊥) → asked s owners line w ≡ record { state = goes_on s Opening; said = Nothing }
+  no_find (Change event) other = refl
+  no_find Find other = absurd (other refl)
+  no_find Comment other = refl
 
   -- a record that is no change is asked, and leaves the owners
-  pub no_change : (w : Record) → OneOf (1 ∷ 2 ∷ []) (tag_of records.the_type w) → asked s owners line w ≡ answered s owners line w
-  no_change (Change event) k = ⊎_elim (λ e. absurd (omega arith)) (λ e. absurd (omega arith)) k
-  no_change Find k = refl
-  no_change Comment k = refl
+  pub no_change : (w : Record) → ((event : Event) → w ≡ Change event → ⊥) → asked s owners line w ≡ answered s owners line w
+  no_change (Change event) other = absurd (other event refl)
+  no_change Find other = refl
+  no_change Comment other = refl
 
-  pub no_change_owners : (w : Record) → OneOf (1 ∷ 2 ∷ []) (tag_of records.the_type w) → owners ≡ owners_answered s owners w
-  no_change_owners (Change event) k = ⊎_elim (λ e. absurd (omega arith)) (λ e. absurd (omega arith)) k
-  no_change_owners Find k = refl
-  no_change_owners Comment k = refl
+  pub no_change_owners : (w : Record) → ((event : Event) → w ≡ Change event → ⊥) → owners ≡ owners_answered s owners w
+  no_change_owners (Change event) other = absurd (other event refl)
+  no_change_owners Find other = refl
+  no_change_owners Comment other = refl
