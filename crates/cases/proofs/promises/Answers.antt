@@ -1,5 +1,4 @@
 -- The checker computes every case of the list.
--- Assumes nothing.
 use mathlib.Core.Path.{refl}
 use Rattle.base.specs.Tables.{sum, all, any, first, table}
 use Rattle.base.specs.Rows.{lowest}
@@ -14,12 +13,8 @@ use Rattle.find.specs.Hash.{hash_from}
 use Rattle.load.specs.Load.{keeps_up, most_kept, carries_all}
 use Rattle.load.specs.Reply.{answer_of as loadAnswer, carried}
 use Rattle.cases.specs.Cases.{same, same_change, given, after, holds, cases, all_hold}
-use Rattle.cases.proofs.promises.Statement.{statement}
-use Rattle.cases.proofs.promises.Tie as tie
+use Rattle.cases.proofs.promises.Goals as goal
 
-returns : tie.Need-returns
+pub returns : goal.returns
 unfolding sum all any first table lowest rank granted sized in_range rising zero_past valid is_on place may_add may_drop may_rerate added dropped rerated quota_of runs owners shares belongs answer_of roster_after table_after forecast_answer change_of hash_from keeps_up most_kept carries_all loadAnswer carried same same_change given after holds cases all_hold
 returns c = refl
-
-pub promises-spec : {M : Type 1} → statement M
-promises-spec = tie.close (tie.spec returns)
