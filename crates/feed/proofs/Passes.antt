@@ -11,7 +11,6 @@ use Rattle.stream.specs.declared.State.{State}
 use Rattle.stream.specs.Steps.{next_number, goes_on}
 use Rattle.stream.specs.Passing.{passes}
 use Rattle.stream.proofs.Passes.{passed-takes}
-use Rattle.feed.specs.declared.Fed.{Fed}
 use Rattle.feed.specs.declared.Passing.{Passing}
 use Rattle.feed.specs.Feed.{before_ten, has_line, line_at, fed, owners_fed}
 use Rattle.feed.specs.Passing.{none_by, passes_by}
