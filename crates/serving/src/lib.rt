@@ -209,11 +209,7 @@ fn large_buffer() -> [u8; 65536]
 }
 
 // Serves a whole input, from a reader to a writer, in memory that does not grow. A read or a write that fails ends it, and is told in one line among the errors.
-pub fn serve<R: Read, W: Write, E: Write>(
-    input: &mut R,
-    output: &mut W,
-    errors: &mut E,
-) -> Ended
+pub fn serve<R: Read, W: Write, E: Write>(input: &mut R, output: &mut W, errors: &mut E) -> Ended
     ensures { Faithful result.state result.done }
 {
     let mut owners = nobody();
