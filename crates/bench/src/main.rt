@@ -5,9 +5,9 @@
 ghost use Rattle.std.specs.Prelude.{◌≤◌};
 
 use events::Event;
-use libc::STDOUT_FILENO;
 use lines::Number;
 use roster::Roster;
+use std::{env, io};
 
 // How much work is asked for.
 #[derive(Clone, Copy)]
@@ -182,42 +182,41 @@ fn run(letter: u8, task: Task) -> u32 {
     }
 }
 
-// The first letter of an argument, or 0.
-fn letter_in(i: usize) -> u8 {
-    let mut text = io::buffer();
-    let n = os::arg(i, &mut text);
-    if n == 0 {
-        return 0;
+// The first letter of a text, or 0.
+fn letter_in(text: &str) -> u8 {
+    match text.as_bytes().first() {
+        Some(letter) => *letter,
+        None => 0,
     }
-    text[0]
 }
 
-// The number that an argument says, or 0.
-fn number_in(i: usize) -> u32 {
-    let mut text = io::buffer();
-    let n = os::arg(i, &mut text);
-    let found = lines::number_in(&text[..n]);
+// The number that a text says, or 0.
+fn number_in(text: &str) -> u32 {
+    let found = lines::number_in(text.as_bytes());
     match found {
         Number::Is(value) => value,
         Number::Spoilt => 0,
     }
 }
 
-fn main() {
-    let count = os::arg_count();
-    if count < 4 {
-        return;
+// Runs a workload that four arguments name, and prints its sum; fewer name none.
+fn run_named(rt: &impl Print, words: &[String]) -> io::Result<()> {
+    let [name, turns, hosts, slots] = words else {
+        return Ok(());
+    };
+    let task = Task {
+        turns: number_in(turns.as_str()),
+        hosts: number_in(hosts.as_str()),
+        slots: number_in(slots.as_str()),
+    };
+    let sum = run(letter_in(name.as_str()), task);
+    println!(rt; "{sum}")
+}
+
+fn main(rt: HostRuntime) -> io::Result<()> {
+    let words: Vec<String> = env::args(&rt)?.skip(1).collect(rt.alloc())?;
+    for named in words.chunks_exact(4) {
+        run_named(&rt, named)?;
     }
-    let last = count - 4;
-    let mut i = 1;
-    while i <= last {
-        let task = Task {
-            turns: number_in(i + 1),
-            hosts: number_in(i + 2),
-            slots: number_in(i + 3),
-        };
-        io::print_decimal(STDOUT_FILENO, run(letter_in(i), task) as u64);
-        io::write_all(STDOUT_FILENO, b"\n");
-        i += 4;
-    }
+    Ok(())
 }

@@ -2,7 +2,7 @@
 ghost use Rattle.std.specs.Prelude.{◌≤◌, length};
 
 use crate::{print, reply};
-use libc::STDIN_FILENO;
+use std::io::Read;
 
 // Where a program stands: the place in the output, how much of the buffer is kept, and whether the input has ended.
 #[derive(Clone, Copy)]
@@ -29,6 +29,7 @@ fn line_end(input: &[u8], from: usize) -> usize
 
 // Takes the whole lines of a piece of input, and answers where the rest begins.
 fn take_lines(
+    rt: &impl Print,
     words: &mut [u32],
     table: &mut [u16],
     out: &mut [u8],
@@ -46,7 +47,7 @@ fn take_lines(
                 ended: false,
             };
         }
-        next = reply::take_line(words, table, out, next, &input[from..end]);
+        next = reply::take_line(rt, words, table, out, next, &input[from..end]);
         from = end + 1;
     }
     Stand {
@@ -84,35 +85,36 @@ fn move_byte(buffer: &mut [u8], from: usize, to: usize) {
 }
 
 // Reads once behind what is kept, and answers how much of the buffer is full.
-fn read_more(buffer: &mut [u8], kept: usize) -> usize
+fn read_more(input: &mut impl Read, buffer: &mut [u8], kept: usize) -> usize
     ensures { result ≤ length buffer.new }
 {
     if buffer.len() <= kept {
         return 0;
     }
     let room = &mut buffer[kept..];
-    let got = libc::read(STDIN_FILENO, room);
-    kept + io::count(got, room)
+    kept + input.read(room).unwrap_or(0)
 }
 
 // One read, and the lines that it completes.
 fn turn(
+    rt: &impl Print,
+    input: &mut impl Read,
     words: &mut [u32],
     table: &mut [u16],
     out: &mut [u8],
     buffer: &mut [u8],
     s: Stand,
 ) -> Stand {
-    let n = read_more(buffer, s.kept);
+    let n = read_more(input, buffer, s.kept);
     if n <= s.kept {
-        print::flush(out, s.at);
+        print::flush(rt, out, s.at);
         return Stand {
             at: 0,
             kept: 0,
             ended: true,
         };
     }
-    let t = take_lines(words, table, out, s.at, &buffer[0..n]);
+    let t = take_lines(rt, words, table, out, s.at, &buffer[0..n]);
     let kept = move_rest(buffer, t.kept, n);
     Stand {
         at: t.at,
@@ -122,7 +124,14 @@ fn turn(
 }
 
 // Takes the whole input. A proved loop has to end: it counts its turns down from a number that no run uses up.
-pub(crate) fn run(words: &mut [u32], table: &mut [u16], out: &mut [u8], buffer: &mut [u8]) {
+pub(crate) fn run(
+    rt: &impl Print,
+    input: &mut impl Read,
+    words: &mut [u32],
+    table: &mut [u16],
+    out: &mut [u8],
+    buffer: &mut [u8],
+) {
     let mut s = Stand {
         at: 0,
         kept: 0,
@@ -130,7 +139,7 @@ pub(crate) fn run(words: &mut [u32], table: &mut [u16], out: &mut [u8], buffer: 
     };
     let mut turns = u64::MAX;
     while turns > 0 {
-        s = turn(words, table, out, buffer, s);
+        s = turn(rt, input, words, table, out, buffer, s);
         if s.ended {
             return;
         }

@@ -21,10 +21,22 @@ fn unset() -> [u32; 1_415] {
     [0u32; 1_415]
 }
 
-fn main() {
+// As many zeros as a read or a write may fill, for the same reason.
+fn large_buffer() -> [u8; 65_536] {
+    [0u8; 65_536]
+}
+
+fn main(rt: HostRuntime) {
     let mut words = unset();
     let mut table = unowned();
-    let mut out = io::large_buffer();
-    let mut buffer = io::large_buffer();
-    input::run(&mut words, &mut table, &mut out, &mut buffer);
+    let mut out = large_buffer();
+    let mut buffer = large_buffer();
+    input::run(
+        &rt,
+        &mut rt.stdin(),
+        &mut words,
+        &mut table,
+        &mut out,
+        &mut buffer,
+    );
 }

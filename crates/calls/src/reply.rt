@@ -4,29 +4,50 @@ use crate::{dump, list, memory, print, set};
 use events::Event;
 
 // Puts a reply of two numbers.
-fn put_two(out: &mut [u8], at: usize, name: &[u8], answer: u32, second: u64) -> usize {
-    let a = print::put_number(out, at, name, answer as u64);
-    let b = print::put_number(out, a, b" ", second);
-    print::put_end(out, b)
+fn put_two(
+    rt: &impl Print,
+    out: &mut [u8],
+    at: usize,
+    name: &[u8],
+    answer: u32,
+    second: u64,
+) -> usize {
+    let a = print::put_number(rt, out, at, name, answer as u64);
+    let b = print::put_number(rt, out, a, b" ", second);
+    print::put_end(rt, out, b)
 }
 
 // `check S`.
-fn check(words: &[u32], table: &[u16], out: &mut [u8], at: usize, line: &[u8]) -> usize {
+fn check(
+    rt: &impl Print,
+    words: &[u32],
+    table: &[u16],
+    out: &mut [u8],
+    at: usize,
+    line: &[u8],
+) -> usize {
     let r = memory::roster_of(words);
     let n = memory::in_use(table, words);
     let c = table::check(r, number(line, 1), &table[0..n]);
-    let next = put_two(out, at, b"check ", c.answer, c.slot as u64);
-    dump::put_memory(words, table, out, next)
+    let next = put_two(rt, out, at, b"check ", c.answer, c.slot as u64);
+    dump::put_memory(rt, words, table, out, next)
 }
 
 // `layout S`.
-fn layout(words: &[u32], table: &mut [u16], out: &mut [u8], at: usize, line: &[u8]) -> usize {
+fn layout(
+    rt: &impl Print,
+    words: &[u32],
+    table: &mut [u16],
+    out: &mut [u8],
+    at: usize,
+    line: &[u8],
+) -> usize {
     let r = memory::roster_of(words);
     let n = memory::in_use(table, words);
     let a = table::layout(r, number(line, 1), &mut table[0..n]);
-    let b = print::put_number(out, at, b"layout ", a as u64);
-    let next = print::put_end(out, b);
-    dump::put_memory(words, table, out, next)
+    let b = print::put_number(rt, out, at, b"layout ", a as u64);
+    let next = print::put_end(rt, out, b);
+    dump::put_memory(rt, words, table, out, next)
 }
 
 // The event that a text names with its first word.
@@ -41,15 +62,22 @@ fn event_of(text: &[u8], host: u32, rate: u32) -> Event {
 }
 
 // `add S H R`, `drop S H`, `rate S H R`.
-fn event(words: &mut [u32], table: &mut [u16], out: &mut [u8], at: usize, line: &[u8]) -> usize {
+fn event(
+    rt: &impl Print,
+    words: &mut [u32],
+    table: &mut [u16],
+    out: &mut [u8],
+    at: usize,
+    line: &[u8],
+) -> usize {
     let r = memory::roster_of(words);
     let n = memory::in_use(table, words);
     let e = event_of(line, number(line, 2), number(line, 3));
     let a = events::apply(r, number(line, 1), e, &mut table[0..n]);
     let after = a.roster;
     memory::keep_roster(words, after);
-    let next = put_two(out, at, b"event ", a.answer, a.moved as u64);
-    dump::put_memory(words, table, out, next)
+    let next = put_two(rt, out, at, b"event ", a.answer, a.moved as u64);
+    dump::put_memory(rt, words, table, out, next)
 }
 
 // The host asked about, behind an event's own words.
@@ -61,51 +89,79 @@ fn asked(event: &[u8]) -> u32 {
 }
 
 // `ask S add H R X`, `ask S drop H X`, `ask S rate H R X`.
-fn ask(words: &[u32], table: &[u16], out: &mut [u8], at: usize, line: &[u8]) -> usize {
+fn ask(
+    rt: &impl Print,
+    words: &[u32],
+    table: &[u16],
+    out: &mut [u8],
+    at: usize,
+    line: &[u8],
+) -> usize {
     let text = rest_of(line, 2);
     let e = event_of(text, number(text, 1), number(text, 2));
     let f = events::forecast(memory::roster_of(words), number(line, 1), e, asked(text));
     let change = f.change;
-    let a = print::put_number(out, at, b"ask ", f.answer as u64);
-    let b = print::put_change(out, a, b" ", change);
-    let next = print::put_end(out, b);
-    dump::put_memory(words, table, out, next)
+    let a = print::put_number(rt, out, at, b"ask ", f.answer as u64);
+    let b = print::put_change(rt, out, a, b" ", change);
+    let next = print::put_end(rt, out, b);
+    dump::put_memory(rt, words, table, out, next)
 }
 
 // `report S`.
-fn report(words: &mut [u32], table: &[u16], out: &mut [u8], at: usize, line: &[u8]) -> usize {
+fn report(
+    rt: &impl Print,
+    words: &mut [u32],
+    table: &[u16],
+    out: &mut [u8],
+    at: usize,
+    line: &[u8],
+) -> usize {
     let answer = list::report_on(words, number(line, 1));
-    let a = print::put_number(out, at, b"report ", answer as u64);
-    let next = print::put_end(out, a);
-    dump::put_memory(words, table, out, next)
+    let a = print::put_number(rt, out, at, b"report ", answer as u64);
+    let next = print::put_end(rt, out, a);
+    dump::put_memory(rt, words, table, out, next)
 }
 
 // Puts yes or no.
-fn put_yes(out: &mut [u8], at: usize, yes: bool) -> usize {
+fn put_yes(rt: &impl Print, out: &mut [u8], at: usize, yes: bool) -> usize {
     if yes {
-        return print::put(out, at, b" yes\n");
+        return print::put(rt, out, at, b" yes\n");
     }
-    print::put(out, at, b" no\n")
+    print::put(rt, out, at, b" no\n")
 }
 
 // `load S P`.
-fn load(words: &[u32], table: &[u16], out: &mut [u8], at: usize, line: &[u8]) -> usize {
+fn load(
+    rt: &impl Print,
+    words: &[u32],
+    table: &[u16],
+    out: &mut [u8],
+    at: usize,
+    line: &[u8],
+) -> usize {
     let c = load::carries(memory::roster_of(words), number(line, 1), number(line, 2));
-    let a = print::put_number(out, at, b"load ", c.answer as u64);
-    let next = put_yes(out, a, c.carries);
-    dump::put_memory(words, table, out, next)
+    let a = print::put_number(rt, out, at, b"load ", c.answer as u64);
+    let next = put_yes(rt, out, a, c.carries);
+    dump::put_memory(rt, words, table, out, next)
 }
 
 // `find L KEY`.
-fn find(words: &[u32], table: &[u16], out: &mut [u8], at: usize, line: &[u8]) -> usize {
+fn find(
+    rt: &impl Print,
+    words: &[u32],
+    table: &[u16],
+    out: &mut [u8],
+    at: usize,
+    line: &[u8],
+) -> usize {
     let n = memory::in_use(table, words);
     let stated = long_number(line, 1) as usize;
     let f = find::look_up(&table[0..n], stated, rest_of(line, 2));
-    let a = print::put_number(out, at, b"find ", f.answer as u64);
-    let b = print::put_number(out, a, b" ", f.slot as u64);
-    let c = print::put_number(out, b, b" ", f.host as u64);
-    let next = print::put_end(out, c);
-    dump::put_memory(words, table, out, next)
+    let a = print::put_number(rt, out, at, b"find ", f.answer as u64);
+    let b = print::put_number(rt, out, a, b" ", f.slot as u64);
+    let c = print::put_number(rt, out, b, b" ", f.host as u64);
+    let next = print::put_end(rt, out, c);
+    dump::put_memory(rt, words, table, out, next)
 }
 
 // What a line calls.
@@ -160,6 +216,7 @@ fn call_of(line: &[u8]) -> Call {
 
 // Answers a line that calls a function; any other sets a part of the memory, or is unknown.
 pub(crate) fn take_line(
+    rt: &impl Print,
     words: &mut [u32],
     table: &mut [u16],
     out: &mut [u8],
@@ -167,13 +224,13 @@ pub(crate) fn take_line(
     line: &[u8],
 ) -> usize {
     match call_of(line) {
-        Call::Check => check(words, table, out, at, line),
-        Call::Layout => layout(words, table, out, at, line),
-        Call::Event => event(words, table, out, at, line),
-        Call::Ask => ask(words, table, out, at, line),
-        Call::Report => report(words, table, out, at, line),
-        Call::Load => load(words, table, out, at, line),
-        Call::Find => find(words, table, out, at, line),
+        Call::Check => check(rt, words, table, out, at, line),
+        Call::Layout => layout(rt, words, table, out, at, line),
+        Call::Event => event(rt, words, table, out, at, line),
+        Call::Ask => ask(rt, words, table, out, at, line),
+        Call::Report => report(rt, words, table, out, at, line),
+        Call::Load => load(rt, words, table, out, at, line),
+        Call::Find => find(rt, words, table, out, at, line),
         Call::Nothing => {
             set::take_setting(words, table, line);
             at

@@ -1,8 +1,6 @@
 // farmtable: serves standard input to standard output.
 #![tactic(auto)]
 
-use libc::{STDIN_FILENO, STDOUT_FILENO};
-
-fn main() {
-    serving::serve(STDIN_FILENO, STDOUT_FILENO);
+fn main(rt: HostRuntime) {
+    serving::serve(&mut rt.stdin(), &mut rt.stdout(), &mut rt.stderr());
 }

@@ -2,34 +2,32 @@
 // `stdout` holds the published values; those of the long keys are from a separate program that follows the published rule with whole numbers and a remainder.
 #![tactic(auto)]
 
-use libc::STDOUT_FILENO;
+use std::io;
 
 // A line: what the key is called, and its hash as eight hexadecimal digits.
-fn print_hash(name: &[u8], key: &[u8]) {
-    io::write_all(STDOUT_FILENO, name);
-    io::write_all(STDOUT_FILENO, b"=");
-    io::print_hex(STDOUT_FILENO, find::hash(key) as u64, 8);
-    io::write_all(STDOUT_FILENO, b"\n");
+fn print_hash(rt: &impl Print, name: &str, key: &[u8]) -> io::Result<()> {
+    let hash = find::hash(key);
+    println!(rt; "{name}={hash:08x}")
 }
 
 // A string is called by itself.
-fn print_string(key: &[u8]) {
-    print_hash(key, key);
+fn print_string(rt: &impl Print, key: &str) -> io::Result<()> {
+    print_hash(rt, key, key.as_bytes())
 }
 
-fn main() {
-    print_string(b"");
-    print_string(b"a");
-    print_string(b"b");
-    print_string(b"c");
-    print_string(b"d");
-    print_string(b"e");
-    print_string(b"f");
-    print_string(b"fo");
-    print_string(b"foo");
-    print_string(b"foob");
-    print_string(b"fooba");
-    print_string(b"foobar");
-    print_hash(b"a x 4096", &[b'a'; 4_096]);
-    print_hash(b"a x 4097", &[b'a'; 4_097]);
+fn main(rt: HostRuntime) -> io::Result<()> {
+    print_string(&rt, "")?;
+    print_string(&rt, "a")?;
+    print_string(&rt, "b")?;
+    print_string(&rt, "c")?;
+    print_string(&rt, "d")?;
+    print_string(&rt, "e")?;
+    print_string(&rt, "f")?;
+    print_string(&rt, "fo")?;
+    print_string(&rt, "foo")?;
+    print_string(&rt, "foob")?;
+    print_string(&rt, "fooba")?;
+    print_string(&rt, "foobar")?;
+    print_hash(&rt, "a x 4096", &[b'a'; 4_096])?;
+    print_hash(&rt, "a x 4097", &[b'a'; 4_097])
 }

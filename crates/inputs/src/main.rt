@@ -2,29 +2,24 @@
 // `stdout` comes from the second implementation under tests/, never from this program.
 #![tactic(auto)]
 
-use libc::STDOUT_FILENO;
+use std::fs::File;
+use std::{env, io};
 
-// Serves the file that an argument names.
-fn serve_file(i: usize) {
-    let mut path = io::buffer();
-    let n = os::arg(i, &mut path);
-    let fd = os::open_read(&path[..n]);
-    if fd < 0 {
-        os::fail(&path[..n]);
-        return;
+// Serves the file of a name; one that cannot be opened is named among the errors.
+fn serve_file(rt: &HostRuntime, name: &str) -> io::Result<()> {
+    match File::open(rt, name) {
+        Ok(mut file) => {
+            println!(rt; "== {name}")?;
+            serving::serve(&mut file, &mut rt.stdout(), &mut rt.stderr());
+            Ok(())
+        }
+        Err(why) => eprintln!(rt; "{name}: {why}"),
     }
-    io::write_all(STDOUT_FILENO, b"== ");
-    io::write_all(STDOUT_FILENO, &path[..n]);
-    io::write_all(STDOUT_FILENO, b"\n");
-    serving::serve(fd, STDOUT_FILENO);
-    libc::close(fd);
 }
 
-fn main() {
-    let count = os::arg_count();
-    let mut i = 1;
-    while i < count {
-        serve_file(i);
-        i += 1;
+fn main(rt: HostRuntime) -> io::Result<()> {
+    for name in env::args(&rt)?.skip(1) {
+        serve_file(&rt, name.as_str())?;
     }
+    Ok(())
 }

@@ -2,17 +2,13 @@
 #![tactic(auto)]
 
 ghost use Rattle.std.specs.Prelude.{◌≡◌, false, ◌≤◌, ◌<◌, length, replicate};
+ghost use Rattle.std.specs.Io.{ReadsAtMost};
 ghost use Rattle.serving.specs.Served.{Faithful};
 ghost use Rattle.serving.specs.Turns.{Holding, Led, ReadOn};
 
+use std::io;
+use std::io::{Error, ErrorKind, Read, Write};
 use stream::State;
-
-// Where an input is read and where what it prints is written, as file descriptors.
-#[derive(Clone, Copy)]
-struct Ends {
-    input: i32,
-    output: i32,
-}
 
 // What a turn leaves: the state, how many bytes of the buffer are held, whether there is a next turn, and, at the end, whether nothing read is left to take.
 #[derive(Clone, Copy)]
@@ -44,37 +40,82 @@ fn last(state: State, done: bool) -> Step
     }
 }
 
-// Writes, and says on standard error if it fails: then nothing more is written.
-fn write(output: i32, text: &[u8]) -> bool {
-    if io::write_all(output, text) {
-        return true;
+// Writes, and hands on what the writer holds back, since who reads may wait for it.
+fn put_out<W: Write>(output: &mut W, text: &[u8]) -> io::Result<()> {
+    output.write_all(text)?;
+    output.flush()
+}
+
+// Says what failed and why, in one line; where that fails too nothing is said.
+fn say<E: Write>(errors: &mut E, what: &str, why: Error) {
+    let _ = writeln!(errors, "farmtable: {what}: {why}");
+}
+
+// Writes, and says so among the errors if it fails: then nothing more is written.
+fn write<W: Write, E: Write>(output: &mut W, errors: &mut E, text: &[u8]) -> bool {
+    match put_out(output, text) {
+        Ok(()) => true,
+        Err(why) => {
+            say(errors, "write", why);
+            false
+        }
     }
-    os::fail(b"farmtable: write");
-    false
 }
 
 // Writes what the end of the input prints, with a piece of a line left over.
-fn at_end(state: State, piece: &[u8], out: &mut [u8], output: i32) {
+fn at_end<W: Write, E: Write>(
+    state: State,
+    piece: &[u8],
+    out: &mut [u8],
+    output: &mut W,
+    errors: &mut E,
+) {
     let n = buffer::finish(state, piece, out);
-    write(output, &out[..n]);
+    write(output, errors, &out[..n]);
+}
+
+// Reads once; a read that is interrupted is made again.
+fn read<R: Read>(input: &mut R, buf: &mut [u8]) -> io::Result<usize>
+    ensures { ReadsAtMost result buf.new }
+{
+    for _ in 0..u64::MAX {
+        match input.read(buf) {
+            Ok(n) => return Ok(n),
+            Err(why) => {
+                if why.kind() != ErrorKind::Interrupted {
+                    return Err(why);
+                }
+            }
+        }
+    }
+    Err(Error::from(ErrorKind::Interrupted))
 }
 
 // Reads behind the bytes held, of which no line is to be taken; at the end of the input writes what that means.
-fn more(state: State, buf: &mut [u8], held: usize, out: &mut [u8], ends: Ends) -> Step
+fn more<R: Read, W: Write, E: Write>(
+    state: State,
+    buf: &mut [u8],
+    held: usize,
+    out: &mut [u8],
+    input: &mut R,
+    output: &mut W,
+    errors: &mut E,
+) -> Step
     requires { held < length buf.old }
     ensures { ReadOn result state buf.old buf.new held }
 {
-    let got = libc::read(ends.input, &mut buf[held..]);
-    if got < 0 {
-        os::fail(b"farmtable: read");
-        return last(state, true);
-    }
+    let got = match read(input, &mut buf[held..]) {
+        Ok(n) => n,
+        Err(why) => {
+            say(errors, "read", why);
+            return last(state, true);
+        }
+    };
     if got == 0 {
-        at_end(state, &buf[..held], out, ends.output);
+        at_end(state, &buf[..held], out, output, errors);
         return last(state, true);
     }
-    let n = io::count(got, &buf[held..]);
-    let filled = held + n;
+    let filled = held + got;
     Step {
         state,
         held: filled,
@@ -84,13 +125,15 @@ fn more(state: State, buf: &mut [u8], held: usize, out: &mut [u8], ends: Ends) -
 }
 
 // Runs the bytes held and writes what they print; then keeps what is left, or reads more where nothing was taken.
-fn turn(
+fn turn<R: Read, W: Write, E: Write>(
     state: State,
     owners: &mut [u16],
     buf: &mut [u8],
     held: usize,
     out: &mut [u8],
-    ends: Ends,
+    input: &mut R,
+    output: &mut W,
+    errors: &mut E,
 ) -> Step
     requires holding { Holding state owners.old buf.old held }
     requires large { 8192 < length buf.old }
@@ -100,7 +143,7 @@ fn turn(
     let ran = buffer::run(state, owners, &buf[..held], out);
     let n = ran.printed;
     let after = ran.state;
-    if !write(ends.output, &out[..n]) {
+    if !write(output, errors, &out[..n]) {
         return last(after, false);
     }
     if after.stopped {
@@ -108,7 +151,7 @@ fn turn(
     }
     let next = ran.next;
     if next == 0 {
-        return more(after, buf, held, out, ends);
+        return more(after, buf, held, out, input, output, errors);
     }
     Step {
         state: after,
@@ -119,7 +162,14 @@ fn turn(
 }
 
 // Turn after turn; they are counted down from a number that no run uses up, since a proved loop has to end.
-fn turns(owners: &mut [u16], buf: &mut [u8], out: &mut [u8], ends: Ends) -> Ended
+fn turns<R: Read, W: Write, E: Write>(
+    owners: &mut [u16],
+    buf: &mut [u8],
+    out: &mut [u8],
+    input: &mut R,
+    output: &mut W,
+    errors: &mut E,
+) -> Ended
     requires nobody { owners.old ≡ replicate 16384 0 }
     requires large { 8192 < length buf.old }
     requires room { 84 ≤ length out.old }
@@ -129,7 +179,7 @@ fn turns(owners: &mut [u16], buf: &mut [u8], out: &mut [u8], ends: Ends) -> Ende
     let mut held = 0;
     let mut left = u64::MAX;
     while left > 0 {
-        let step = turn(state, owners, buf, held, out, ends);
+        let step = turn(state, owners, buf, held, out, input, output, errors);
         let after = step.state;
         if !step.again {
             return Ended {
@@ -151,13 +201,19 @@ fn nobody() -> [u16; 16384]
     [0u16; 16384]
 }
 
-// Serves a whole input, from one file descriptor to another, in memory that does not grow.
-pub fn serve(input: i32, output: i32) -> Ended
+// 65,536 zeros: what is read and what is printed go by pieces of so many bytes at most.
+fn large_buffer() -> [u8; 65536]
+    ensures { 65536 ≡ length result }
+{
+    [0u8; 65536]
+}
+
+// Serves a whole input, from a reader to a writer, in memory that does not grow. A read or a write that fails ends it, and is told in one line among the errors.
+pub fn serve<R: Read, W: Write, E: Write>(input: &mut R, output: &mut W, errors: &mut E) -> Ended
     ensures { Faithful result.state result.done }
 {
     let mut owners = nobody();
-    let mut buf = io::large_buffer();
-    let mut out = io::large_buffer();
-    let ends = Ends { input, output };
-    turns(&mut owners, &mut buf, &mut out, ends)
+    let mut buf = large_buffer();
+    let mut out = large_buffer();
+    turns(&mut owners, &mut buf, &mut out, input, output, errors)
 }

@@ -3,34 +3,33 @@
 #![tactic(auto)]
 
 use events::Event;
-use libc::STDOUT_FILENO;
 use roster::Roster;
+use std::io;
 
 // An owner behind a space.
-fn print_owner(owner: u16) {
-    io::write_all(STDOUT_FILENO, b" ");
-    io::print_decimal(STDOUT_FILENO, owner as u64);
+fn print_owner(rt: &impl Print, owner: u16) -> io::Result<()> {
+    print!(rt; " {owner}")
 }
 
 // The owners of a table.
-fn print_slots(table: &[u16]) {
-    let mut i = 0;
-    while i < table.len() {
-        print_owner(table[i]);
-        i += 1;
+fn print_slots(rt: &impl Print, table: &[u16]) -> io::Result<()> {
+    for owner in table {
+        print_owner(rt, *owner)?;
     }
+    Ok(())
 }
 
 // What was done, the answer, the count, and the table after it.
-fn print_trial(name: &[u8], answer: u32, moved: u32, table: &[u16]) {
-    io::write_all(STDOUT_FILENO, name);
-    io::write_all(STDOUT_FILENO, b": answer ");
-    io::print_decimal(STDOUT_FILENO, answer as u64);
-    io::write_all(STDOUT_FILENO, b", moved ");
-    io::print_decimal(STDOUT_FILENO, moved as u64);
-    io::write_all(STDOUT_FILENO, b", slots");
-    print_slots(table);
-    io::write_all(STDOUT_FILENO, b"\n");
+fn print_trial(
+    rt: &impl Print,
+    name: &str,
+    answer: u32,
+    moved: u32,
+    table: &[u16],
+) -> io::Result<()> {
+    print!(rt; "{name}: answer {answer}, moved {moved}, slots")?;
+    print_slots(rt, table)?;
+    println!(rt)
 }
 
 // Farm F.
@@ -41,20 +40,20 @@ fn farm() -> Roster {
     roster::added(three, 4, 31)
 }
 
-fn main() {
+fn main(rt: HostRuntime) -> io::Result<()> {
     let f = farm();
     let mut table = [0u16; 20];
     let a = table::layout(f, 20, &mut table);
-    print_trial(b"fresh", a, 0, &table);
+    print_trial(&rt, "fresh", a, 0, &table)?;
     let b = events::apply(f, 20, Event::Drop { host: 4 }, &mut table);
-    print_trial(b"drop 4", b.answer, b.moved, &table);
+    print_trial(&rt, "drop 4", b.answer, b.moved, &table)?;
     table::layout(f, 20, &mut table);
     let c = events::apply(f, 20, Event::Drop { host: 1 }, &mut table);
-    print_trial(b"drop 1", c.answer, c.moved, &table);
+    print_trial(&rt, "drop 1", c.answer, c.moved, &table)?;
     let again = c.roster;
     let d = events::apply(again, 20, Event::Add { host: 1, rate: 15 }, &mut table);
-    print_trial(b"add 1", d.answer, d.moved, &table);
+    print_trial(&rt, "add 1", d.answer, d.moved, &table)?;
     table::layout(f, 20, &mut table);
     let e = events::apply(f, 20, Event::Rate { host: 1, rate: 46 }, &mut table);
-    print_trial(b"rate 1", e.answer, e.moved, &table);
+    print_trial(&rt, "rate 1", e.answer, e.moved, &table)
 }
