@@ -187,6 +187,7 @@ fn missing(state: State) -> Said
 }
 
 // What the end of the input prints, with a piece of a line left over.
+#[tactic(auto, unfolding(stream::specs::Meaning::at_end))]
 pub fn end_of_input(state: State, piece: &[u8]) -> Said
     ensures { result ≡ at_end state piece.now }
 {

@@ -61,6 +61,7 @@ fn with_digit(value: u32, byte: u8) -> u32
 }
 
 // Whether a text has 1 to 9 bytes and no zero before others.
+#[tactic(auto, unfolding(crate::specs::Numbers::well_sized))]
 fn well_sized(text: &[u8]) -> bool
     ensures { result ≡ numbers.well_sized text.now }
 {
@@ -219,6 +220,7 @@ fn read_due(due: Due, number: u64, line: &[u8]) -> Read
 }
 
 // What a whole line, the numbered one of its input, brings where a line is due.
+#[tactic(auto, unfolding(crate::specs::Lines::read_line))]
 pub fn read_line(due: Due, number: u64, line: &[u8]) -> Read
     ensures { result ≡ lines.read_line due number line.now }
 {
