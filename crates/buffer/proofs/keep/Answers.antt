@@ -14,26 +14,8 @@ returns-then-buf-from c =
       bytes = whole.1;
     }
 
-pub overflow_sub-left : goal.overflow_sub-left
-overflow_sub-left c = omega arith
-
 pub loop-i-init : goal.loop-i-init
 loop-i-init c = (omega arith, refl, refl)
-
-pub overflow_add-buf : goal.overflow_add-buf
-overflow_add-buf c = omega arith
-
-pub bounds-buf-from : goal.bounds-buf-from
-bounds-buf-from c = omega arith
-
-pub bounds-buf-i : goal.bounds-buf-i
-bounds-buf-i c = omega arith
-
-pub overflow_add-i : goal.overflow_add-i
-overflow_add-i c = omega arith
-
-pub loop-i-smaller : goal.loop-i-smaller
-loop-i-smaller c = omega arith
 
 pub loop-i-preserved : goal.loop-i-preserved
 loop-i-preserved c =

@@ -7,17 +7,8 @@ use Rattle.feed.proofs.line_end.Goals as goal
 pub loop-i-init : goal.loop-i-init
 loop-i-init c = (omega arith, refl)
 
-pub bounds-input-i : goal.bounds-input-i
-bounds-input-i c = omega arith
-
 pub returns-then-input-i-eq10 : goal.returns-then-input-i-eq10
 returns-then-input-i-eq10 c = let here = ten_here c.args.input.now c.loop-i.i (omega arith) c.if-input-i-eq10.true in let kept = c.loop-i.invariant.1 in omega arith
-
-pub overflow_add-i : goal.overflow_add-i
-overflow_add-i c = omega arith
-
-pub loop-i-smaller : goal.loop-i-smaller
-loop-i-smaller c = omega arith
 
 pub loop-i-preserved : goal.loop-i-preserved
 loop-i-preserved c = let later = ten_later c.args.input.now c.loop-i.i (omega arith) c.if-input-i-eq10.false in let kept = c.loop-i.invariant.1 in (omega arith, omega arith)

@@ -5,32 +5,17 @@ use Rattle.lines.proofs.Texts.{reading_start, reading_next, one_more, number_uns
 use Rattle.std.proofs.Common.{◌∙◌}
 use Rattle.lines.proofs.number_in.Goals as goal
 
-pub well_sized-requires : goal.well_sized-requires
-well_sized-requires c = omega arith
-
 pub returns-then-not-well_sized : goal.returns-then-not-well_sized
 returns-then-not-well_sized c = sym (number_unsized _ (sym c.well_sized.ensures ∙ c.if-not-well_sized.true))
 
 pub loop-i-init : goal.loop-i-init
 loop-i-init c = reading_start _
 
-pub bounds-text-i : goal.bounds-text-i
-bounds-text-i c = omega arith
-
-pub is_digit-requires : goal.is_digit-requires
-is_digit-requires c = omega arith
-
 pub returns-then-not-is_digit : goal.returns-then-not-is_digit
 returns-then-not-is_digit c = sym (number_spoilt _ _ _ c.loop-i.invariant (omega arith) (sym c.is_digit.ensures ∙ c.if-not-is_digit.true))
 
 pub with_digit-value-requires : goal.with_digit-value-requires
 with_digit-value-requires c = one_more _ _ _ c.loop-i.invariant (omega arith) (sym c.is_digit.ensures ∙ c.if-not-is_digit.false) (sym c.well_sized.ensures ∙ c.if-not-well_sized.false)
-
-pub overflow_add-i : goal.overflow_add-i
-overflow_add-i c = omega arith
-
-pub loop-i-smaller : goal.loop-i-smaller
-loop-i-smaller c = omega arith
 
 pub loop-i-preserved : goal.loop-i-preserved
 loop-i-preserved c = rw c.with_digit-value.ensures (reading_next _ _ _ c.loop-i.invariant (omega arith) (sym c.is_digit.ensures ∙ c.if-not-is_digit.false))

@@ -10,20 +10,8 @@ returns-then-line-name c = sym (starts_short _ _ c.if-line-name.true)
 pub loop-i-init : goal.loop-i-init
 loop-i-init c = (omega arith, refl)
 
-pub bounds-name-i : goal.bounds-name-i
-bounds-name-i c = omega arith
-
-pub bounds-line-i : goal.bounds-line-i
-bounds-line-i c = omega arith
-
 pub returns-then-name-i : goal.returns-then-name-i
 returns-then-name-i c = sym (sym c.loop-i.invariant.1 ∙ starts_differs _ _ c.loop-i.i (omega arith) (omega arith) c.if-name-i.true)
-
-pub overflow_add-i : goal.overflow_add-i
-overflow_add-i c = omega arith
-
-pub loop-i-smaller : goal.loop-i-smaller
-loop-i-smaller c = omega arith
 
 pub loop-i-preserved : goal.loop-i-preserved
 loop-i-preserved c = (omega arith, starts_next _ _ c.loop-i.i (omega arith) (omega arith) c.if-name-i.false ∙ c.loop-i.invariant.1)

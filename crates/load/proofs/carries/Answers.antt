@@ -1,5 +1,4 @@
 -- `load::carries` meets its contract: each return is one row of the refusals, or none.
-use borrow.Author.Rules.{rules}
 use mathlib.Core.Path.{◌≡◌, sym, ap, ◌∙◌}
 use mathlib.Core.Bool.{true}
 use Prim.Native.Nat.{◌≤◌}
@@ -14,20 +13,8 @@ use Rattle.load.proofs.Replies.{carried-slots, carried_roster, carried_none, car
 use Rattle.load.proofs.carries.Goals as goal
 use Rattle.load.proofs.carries.Goals.{Else-not-load_fits, Else-not-slots_fit, Else-not-valid}
 
-pub slots_fit-requires : goal.slots_fit-requires
-slots_fit-requires c = search rules
-
-pub refused-requires : goal.refused-requires
-refused-requires c = search rules
-
 pub returns-then-not-slots_fit : goal.returns-then-not-slots_fit
 returns-then-not-slots_fit c = c.refused.ensures ∙ sym (carried-slots _ _ _ (sym c.slots_fit.ensures ∙ c.if-not-slots_fit.true))
-
-pub valid-requires : goal.valid-requires
-valid-requires c = search rules
-
-pub refused-requires-then-not-valid : goal.refused-requires-then-not-valid
-refused-requires-then-not-valid c = search rules
 
 -- past the first test the slot count fits
 fits : (c : Else-not-slots_fit) → slots_fit c.args.slots ≡ true
@@ -37,9 +24,6 @@ pub returns-then-not-valid : goal.returns-then-not-valid
 returns-then-not-valid c =
     c.refused-then-not-valid.ensures ∙ sym (carried_roster _ _ _ (fits (goal.at.returns-then-not-valid c).Else-not-slots_fit) (sym c.valid.ensures ∙ c.if-not-valid.true))
 
-pub refused-requires-then-n-eq0 : goal.refused-requires-then-n-eq0
-refused-requires-then-n-eq0 c = search rules
-
 -- past the second the roster breaks no rule
 right : (c : Else-not-valid) → valid c.args.r ≡ true
 right c = sym c.valid.ensures ∙ c.if-not-valid.false
@@ -47,12 +31,6 @@ right c = sym c.valid.ensures ∙ c.if-not-valid.false
 pub returns-then-n-eq0 : goal.returns-then-n-eq0
 returns-then-n-eq0 c =
     c.refused-then-n-eq0.ensures ∙ sym (carried_none _ _ _ (fits (goal.at.returns-then-n-eq0 c).Else-not-slots_fit) (right (goal.at.returns-then-n-eq0 c).Else-not-valid) c.if-n-eq0.true)
-
-pub load_fits-requires : goal.load_fits-requires
-load_fits-requires c = search rules
-
-pub refused-requires-then-not-load_fits : goal.refused-requires-then-not-load_fits
-refused-requires-then-not-load_fits c = search rules
 
 pub returns-then-not-load_fits : goal.returns-then-not-load_fits
 returns-then-not-load_fits c =

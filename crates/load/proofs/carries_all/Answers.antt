@@ -19,12 +19,6 @@ loop-i-init c =
     let args = c.args in
     (omega arith, omega arith, sum-none (λ k. most_kept args.load args.slots c.rate_sum-all.result (at args.rates.now k)))
 
-pub offset_bounds-rates-i : goal.offset_bounds-rates-i
-offset_bounds-rates-i c = omega arith
-
-pub bounds-rates-i : goal.bounds-rates-i
-bounds-rates-i c = omega arith
-
 -- the sum of the rates is that of at most 256 hosts, each at most a million
 sum-small : (c : After-rate_sum-all) → c.rate_sum-all.result ≤ 256000000
 sum-small c =
@@ -47,12 +41,6 @@ turn_small c =
 
 pub overflow_add-most : goal.overflow_add-most
 overflow_add-most c = omega (arith, turn_small c)
-
-pub overflow_add-i : goal.overflow_add-i
-overflow_add-i c = omega arith
-
-pub loop-i-smaller : goal.loop-i-smaller
-loop-i-smaller c = omega arith
 
 pub loop-i-preserved : goal.loop-i-preserved
 loop-i-preserved c =

@@ -11,12 +11,6 @@ use Rattle.load.proofs.rate_sum.Goals.{In-loop-i}
 pub loop-i-init : goal.loop-i-init
 loop-i-init c = (omega arith, omega arith, sum-none (at c.args.rates.now))
 
-pub offset_bounds-rates-i : goal.offset_bounds-rates-i
-offset_bounds-rates-i c = omega arith
-
-pub bounds-rates-i : goal.bounds-rates-i
-bounds-rates-i c = omega arith
-
 -- the rate of this turn is at most a million
 rate : (c : In-loop-i) → at c.args.rates.now c.loop-i.i ≤ 1000000
 rate c = c.requires.1 c.loop-i.i c.loop-i-test.true
@@ -26,12 +20,6 @@ overflow_cast-all c = omega (arith, rate (goal.at.overflow_cast-all c).In-loop-i
 
 pub overflow_add-all : goal.overflow_add-all
 overflow_add-all c = omega (arith, rate (goal.at.overflow_add-all c).In-loop-i)
-
-pub overflow_add-i : goal.overflow_add-i
-overflow_add-i c = omega arith
-
-pub loop-i-smaller : goal.loop-i-smaller
-loop-i-smaller c = omega arith
 
 pub loop-i-preserved : goal.loop-i-preserved
 loop-i-preserved c =

@@ -30,12 +30,6 @@ overflow_add-held c = omega (arith, (turned (goal.at.overflow_add-held c).After-
 pub bounds-held-p-in-loop-given : goal.bounds-held-p-in-loop-given
 bounds-held-p-in-loop-given c = (turned (goal.at.bounds-held-p-in-loop-given c).After-lightest-p).within
 
-pub overflow_add-given : goal.overflow_add-given
-overflow_add-given c = omega arith
-
-pub loop-given-smaller : goal.loop-given-smaller
-loop-given-smaller c = omega arith
-
 pub loop-given-preserved : goal.loop-given-preserved
 loop-given-preserved c = (omega arith, omega (arith, (turned (goal.at.loop-given-preserved c).After-lightest-p).more), (turned (goal.at.loop-given-preserved c).After-lightest-p).kept)
 

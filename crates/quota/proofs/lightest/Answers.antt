@@ -11,50 +11,6 @@ pub loop-i-init : goal.loop-i-init
 unfolding least
 loop-i-init c = (omega arith, omega arith, refl)
 
--- src/lib.rt:63:28
-pub offset_bounds-held-i : goal.offset_bounds-held-i
-offset_bounds-held-i c = omega arith
-
--- src/lib.rt:63:28
-pub bounds-held-i : goal.bounds-held-i
-bounds-held-i c = omega arith
-
--- src/lib.rt:63:37
-pub offset_bounds-rates-i : goal.offset_bounds-rates-i
-offset_bounds-rates-i c = omega arith
-
--- src/lib.rt:63:37
-pub bounds-rates-i : goal.bounds-rates-i
-bounds-rates-i c = omega arith
-
--- src/lib.rt:63:47
-pub offset_bounds-held-best : goal.offset_bounds-held-best
-offset_bounds-held-best c = omega arith
-
--- src/lib.rt:63:47
-pub bounds-held-best : goal.bounds-held-best
-bounds-held-best c = omega arith
-
--- src/lib.rt:63:59
-pub offset_bounds-rates-best : goal.offset_bounds-rates-best
-offset_bounds-rates-best c = omega arith
-
--- src/lib.rt:63:59
-pub bounds-rates-best : goal.bounds-rates-best
-bounds-rates-best c = omega arith
-
--- src/lib.rt:63:12
-pub next_is_lighter-requires : goal.next_is_lighter-requires
-next_is_lighter-requires c = omega arith
-
--- src/lib.rt:66:9
-pub overflow_add-i : goal.overflow_add-i
-overflow_add-i c = omega arith
-
--- src/lib.rt:62:5
-pub loop-i-smaller : goal.loop-i-smaller
-loop-i-smaller c = omega arith
-
 -- src/lib.rt:62:5
 pub loop-i-preserved : goal.loop-i-preserved
 loop-i-preserved c =

@@ -1,5 +1,4 @@
 -- `quota::next_is_lighter` meets its contract: a number of slots and a rate fit 32 bits, so their product fits 64.
-use borrow.Author.Rules.{rules}
 use Prim.Native.Nat.{ℕ, suc, ◌+◌, ◌*◌, ◌^◌}
 use mathlib.Core.Path.{◌≡◌, ap, ap₂}
 use lib.Dec.{ltb}
@@ -8,14 +7,8 @@ use native.Mathlib.Omega.{arith}
 use Rattle.base.proofs.Sums.{product_below}
 use Rattle.quota.proofs.next_is_lighter.Goals as goal
 
-pub overflow_add-result : goal.overflow_add-result
-overflow_add-result c = search rules
-
 pub overflow_mul-result : goal.overflow_mul-result
 overflow_mul-result c = record { fits = product_below (2 ^ 32) (2 ^ 32) (omega arith) (omega arith) (omega arith) }
-
-pub overflow_add-result-2 : goal.overflow_add-result-2
-overflow_add-result-2 c = search rules
 
 pub overflow_mul-result-2 : goal.overflow_mul-result-2
 overflow_mul-result-2 c = record { fits = product_below (2 ^ 32) (2 ^ 32) (omega arith) (omega arith) (omega arith) }

@@ -1,5 +1,4 @@
 -- `quota::quotas` meets its contract: slots are given out from none held, and only within the sizes.
-use borrow.Author.Rules.{rules}
 use borrow.Author.Tests.{not-true, not-false}
 use native.Mathlib.Omega.{arith}
 use Prim.Native.Nat.{◌≤◌, ◌<◌}
@@ -13,12 +12,6 @@ use Rattle.quota.proofs.Sizes.{hosts_fit, slots_fit_lem, rates_positive}
 use Rattle.quota.proofs.Given.{given_outside, given-none, start-cut, start-total, given-within}
 use Rattle.quota.proofs.quotas.Goals as goal
 use Rattle.quota.proofs.quotas.Goals.{Else-n-eq0, Else-not-within_sizes}
-
-pub none_held-held-requires : goal.none_held-held-requires
-none_held-held-requires c = search rules
-
-pub within_sizes-requires : goal.within_sizes-requires
-within_sizes-requires c = search rules
 
 pub returns-then-not-within_sizes : goal.returns-then-not-within_sizes
 returns-then-not-within_sizes c =

@@ -19,25 +19,10 @@ pub loop-i-init : goal.loop-i-init
 unfolding all
 loop-i-init c = (omega arith, refl)
 
-pub offset_bounds-rates-i : goal.offset_bounds-rates-i
-offset_bounds-rates-i c = omega arith
-
-pub bounds-rates-i : goal.bounds-rates-i
-bounds-rates-i c = omega arith
-
-pub rate_fits-requires : goal.rate_fits-requires
-rate_fits-requires c = omega arith
-
 pub returns-then-not-rate_fits : goal.returns-then-not-rate_fits
 returns-then-not-rate_fits c =
     let fails = sym c.rate_fits.ensures ∙ not-true _ c.if-not-rate_fits.true-raw in
     sym (rates_decide _ _ c.if-rates-gt256.false c.if-slots-gt16384.false ∙ all_fails _ _ c.loop-i.i c.loop-i-test.true fails)
-
-pub overflow_add-i : goal.overflow_add-i
-overflow_add-i c = omega arith
-
-pub loop-i-smaller : goal.loop-i-smaller
-loop-i-smaller c = omega arith
 
 pub loop-i-preserved : goal.loop-i-preserved
 loop-i-preserved c =

@@ -1,5 +1,4 @@
 -- `roster::added` meets its contract: the arrays it makes are those of the definition.
-use borrow.Author.Rules.{rules}
 use native.Mathlib.Omega.{arith}
 use mathlib.Core.Path.{◌≡◌, sym}
 use mathlib.Core.Bool.{true}
@@ -11,9 +10,6 @@ use Rattle.std.proofs.Common.{◌∙◌}
 use Rattle.roster.proofs.added.Goals as goal
 use Rattle.roster.proofs.added.Goals.{Else-not-may_add}
 
-pub may_add-requires : goal.may_add-requires
-may_add-requires c = search rules
-
 pub returns-then-not-may_add : goal.returns-then-not-may_add
 returns-then-not-may_add c = sym (added_not _ _ _ (sym c.may_add.ensures ∙ c.if-not-may_add.true))
 
@@ -23,12 +19,6 @@ allowed c = sym c.may_add.ensures ∙ c.if-not-may_add.false
 
 pub place_in-p-requires : goal.place_in-p-requires
 place_in-p-requires c = add-valid _ _ _ (allowed (goal.at.place_in-p-requires c).Else-not-may_add)
-
-pub slice_bounds-put_in-end : goal.slice_bounds-put_in-end
-slice_bounds-put_in-end c = search rules
-
-pub slice_bounds-put_in-end-2 : goal.slice_bounds-put_in-end-2
-slice_bounds-put_in-end-2 c = search rules
 
 pub put_in-requires : goal.put_in-requires
 put_in-requires c =

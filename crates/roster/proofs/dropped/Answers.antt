@@ -1,5 +1,4 @@
 -- `roster::dropped` meets its contract: the arrays it makes are those of the definition.
-use borrow.Author.Rules.{rules}
 use native.Mathlib.Omega.{arith}
 use mathlib.Core.Path.{◌≡◌, sym}
 use mathlib.Core.Bool.{true}
@@ -11,9 +10,6 @@ use Rattle.std.proofs.Common.{◌∙◌}
 use Rattle.roster.proofs.dropped.Goals as goal
 use Rattle.roster.proofs.dropped.Goals.{Else-not-may_drop}
 
-pub may_drop-requires : goal.may_drop-requires
-may_drop-requires c = search rules
-
 pub returns-then-not-may_drop : goal.returns-then-not-may_drop
 returns-then-not-may_drop c = sym (dropped_not _ _ (sym c.may_drop.ensures ∙ c.if-not-may_drop.true))
 
@@ -23,12 +19,6 @@ allowed c = sym c.may_drop.ensures ∙ c.if-not-may_drop.false
 
 pub place_in-p-requires : goal.place_in-p-requires
 place_in-p-requires c = drop-valid _ _ (allowed (goal.at.place_in-p-requires c).Else-not-may_drop)
-
-pub slice_bounds-take_out-end : goal.slice_bounds-take_out-end
-slice_bounds-take_out-end c = search rules
-
-pub slice_bounds-take_out-end-2 : goal.slice_bounds-take_out-end-2
-slice_bounds-take_out-end-2 c = search rules
 
 pub take_out-requires : goal.take_out-requires
 take_out-requires c =

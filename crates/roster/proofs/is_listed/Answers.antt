@@ -1,5 +1,4 @@
 -- `roster::is_listed` meets its contract: the numbers of a valid roster rise, so the search finds what is there.
-use borrow.Author.Rules.{rules}
 use mathlib.Core.Path.{sym}
 use native.Mathlib.Omega.{arith}
 use Rattle.roster.proofs.Facts.{facts, hosts_rise, length_hosts}
@@ -10,9 +9,6 @@ slice_bounds-hosts-end c = let f = facts _ c.requires in omega (arith, f.few, f.
 
 pub slice_bounds-is_on-end : goal.slice_bounds-is_on-end
 slice_bounds-is_on-end c = sym (length_hosts _ (facts _ c.requires))
-
-pub is_on-requires : goal.is_on-requires
-is_on-requires c = search rules
 
 pub returns : goal.returns
 returns c = c.is_on.ensures (hosts_rise _ (facts _ c.requires))

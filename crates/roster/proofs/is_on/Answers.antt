@@ -1,17 +1,7 @@
 -- `roster::is_on` meets its contract: a number that is among rising ones stands at its place.
-use borrow.Author.Rules.{rules}
 use mathlib.Core.Path.{sym}
 use Rattle.roster.proofs.Search.{on_answer, off_past}
 use Rattle.roster.proofs.is_on.Goals as goal
-
-pub place-p-requires : goal.place-p-requires
-place-p-requires c = search rules
-
-pub offset_bounds-hosts-p : goal.offset_bounds-hosts-p
-offset_bounds-hosts-p c = search rules
-
-pub bounds-hosts-p : goal.bounds-hosts-p
-bounds-hosts-p c = search rules
 
 pub returns-then-p-hosts : goal.returns-then-p-hosts
 returns-then-p-hosts c = λ rises.

@@ -1,5 +1,4 @@
 -- `roster::may_add` meets its contract: its tests are those of the definition, one after the other.
-use borrow.Author.Rules.{rules}
 use borrow.Author.Tests.{le-leb}
 use mathlib.Core.Path.{◌≡◌}
 use mathlib.Core.Bool.{true, ◌&&◌}
@@ -13,9 +12,6 @@ use Rattle.std.proofs.Common.{◌∙◌}
 use Rattle.std.proofs.Common.{sym}
 use Rattle.roster.proofs.may_add.Goals as goal
 use Rattle.roster.proofs.may_add.Goals.{Else-host-eq0, Else-not-rate_fits, Else-not-valid}
-
-pub valid-requires : goal.valid-requires
-valid-requires c = search rules
 
 pub returns-then-not-valid : goal.returns-then-not-valid
 unfolding may_add
@@ -34,9 +30,6 @@ each_host_fits : (c : Else-host-eq0) → host_fits c.args.host ≡ true
 each_host_fits c =
     let host = c.args.host in
     and_both _ _ (le-leb 1 host (pos_of_ne-zero c.if-host-eq0.false)) (le-leb host 65535 (omega arith))
-
-pub rate_fits-requires : goal.rate_fits-requires
-rate_fits-requires c = search rules
 
 pub returns-then-not-rate_fits : goal.returns-then-not-rate_fits
 unfolding may_add

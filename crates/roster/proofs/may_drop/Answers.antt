@@ -1,5 +1,4 @@
 -- `roster::may_drop` meets its contract: its tests are those of the definition, one after the other.
-use borrow.Author.Rules.{rules}
 use mathlib.Core.Path.{◌≡◌}
 use mathlib.Core.Bool.{true}
 use Rattle.roster.specs.Roster.{valid}
@@ -8,9 +7,6 @@ use Rattle.std.proofs.Common.{◌∙◌}
 use Rattle.std.proofs.Common.{sym}
 use Rattle.roster.proofs.may_drop.Goals as goal
 use Rattle.roster.proofs.may_drop.Goals.{Else-not-valid}
-
-pub valid-requires : goal.valid-requires
-valid-requires c = search rules
 
 pub returns-then-not-valid : goal.returns-then-not-valid
 unfolding may_drop

@@ -1,5 +1,4 @@
 -- `roster::may_rerate` meets its contract: its tests are those of the definition, one after the other.
-use borrow.Author.Rules.{rules}
 use mathlib.Core.Path.{◌≡◌}
 use mathlib.Core.Bool.{true}
 use Rattle.roster.specs.Roster.{valid}
@@ -9,9 +8,6 @@ use Rattle.std.proofs.Common.{sym}
 use Rattle.roster.proofs.may_rerate.Goals as goal
 use Rattle.roster.proofs.may_rerate.Goals.{Else-not-valid}
 
-pub valid-requires : goal.valid-requires
-valid-requires c = search rules
-
 pub returns-then-not-valid : goal.returns-then-not-valid
 unfolding may_rerate
 returns-then-not-valid c = rw (sym c.valid.ensures ∙ c.if-not-valid.true)
@@ -19,9 +15,6 @@ returns-then-not-valid c = rw (sym c.valid.ensures ∙ c.if-not-valid.true)
 -- past the first test the roster is valid
 ready : (c : Else-not-valid) → valid c.args.r ≡ true
 ready c = sym c.valid.ensures ∙ c.if-not-valid.false
-
-pub rate_fits-requires : goal.rate_fits-requires
-rate_fits-requires c = search rules
 
 pub returns-then-not-rate_fits : goal.returns-then-not-rate_fits
 unfolding may_rerate

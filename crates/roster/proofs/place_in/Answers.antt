@@ -1,5 +1,4 @@
 -- `roster::place_in` meets its contract: the numbers of a valid roster rise, so the search finds the place.
-use borrow.Author.Rules.{rules}
 use mathlib.Core.Path.{sym}
 use native.Mathlib.Omega.{arith}
 use Rattle.roster.proofs.Facts.{facts, hosts_rise, length_hosts}
@@ -10,9 +9,6 @@ slice_bounds-hosts-end c = let f = facts _ c.requires in omega (arith, f.few, f.
 
 pub slice_bounds-place-end : goal.slice_bounds-place-end
 slice_bounds-place-end c = sym (length_hosts _ (facts _ c.requires))
-
-pub place-requires : goal.place-requires
-place-requires c = search rules
 
 pub returns : goal.returns
 returns c = c.place.ensures.sorted (hosts_rise _ (facts _ c.requires))

@@ -1,10 +1,6 @@
 -- `roster::place_right` meets its contract: its tests are those of the definition, one after the other.
-use borrow.Author.Rules.{rules}
 use borrow.Author.Tests.{lt-ltb, le-ltb, eq-eqb, ne_eqb}
 use Rattle.roster.proofs.place_right.Goals as goal
-
-pub rate_fits-requires : goal.rate_fits-requires
-rate_fits-requires c = search rules
 
 pub returns-then-last-host : goal.returns-then-last-host
 returns-then-last-host c = rw (c.if-used.true, lt-ltb _ _ c.if-last-host.true) c.rate_fits.ensures

@@ -14,21 +14,6 @@ pub loop-i-init : goal.loop-i-init
 unfolding last_before all
 loop-i-init c = (omega arith, refl, refl)
 
-pub offset_bounds-hosts-i : goal.offset_bounds-hosts-i
-offset_bounds-hosts-i c = omega arith
-
-pub bounds-hosts-i : goal.bounds-hosts-i
-bounds-hosts-i c = omega arith
-
-pub offset_bounds-rates-i : goal.offset_bounds-rates-i
-offset_bounds-rates-i c = omega arith
-
-pub bounds-rates-i : goal.bounds-rates-i
-bounds-rates-i c = omega arith
-
-pub place_right-requires : goal.place_right-requires
-place_right-requires c = omega arith
-
 -- the answer of a turn is that place's
 here : (c : After-place_right) →
     let args = c.args in
@@ -48,12 +33,6 @@ returns-then-not-place_right c =
       answer = sym (all_fails 256 _ c.loop-i.i (omega arith) fails);
       narrow = narrow (goal.at.returns-then-not-place_right c).After-shared_slice_known-1;
     }
-
-pub overflow_add-i : goal.overflow_add-i
-overflow_add-i c = omega arith
-
-pub loop-i-smaller : goal.loop-i-smaller
-loop-i-smaller c = omega arith
 
 pub loop-i-preserved : goal.loop-i-preserved
 unfolding last_before

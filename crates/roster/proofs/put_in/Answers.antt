@@ -7,36 +7,6 @@ use Rattle.roster.proofs.put_in.Goals as goal
 pub loop-i-init : goal.loop-i-init
 loop-i-init c = (put_start _ _ _ c.requires.0, put_start _ _ _ (rw c.requires.1 c.requires.0))
 
-pub offset_bounds-hosts-i : goal.offset_bounds-hosts-i
-offset_bounds-hosts-i c = omega arith
-
-pub bounds-hosts-i : goal.bounds-hosts-i
-bounds-hosts-i c = omega arith
-
-pub offset_bounds-rates-i : goal.offset_bounds-rates-i
-offset_bounds-rates-i c = omega arith
-
-pub bounds-rates-i : goal.bounds-rates-i
-bounds-rates-i c = omega arith
-
-pub offset_bounds-hosts-i-in-loop-i : goal.offset_bounds-hosts-i-in-loop-i
-offset_bounds-hosts-i-in-loop-i c = omega arith
-
-pub bounds-hosts-i-in-loop-i : goal.bounds-hosts-i-in-loop-i
-bounds-hosts-i-in-loop-i c = omega arith
-
-pub offset_bounds-rates-i-in-loop-i : goal.offset_bounds-rates-i-in-loop-i
-offset_bounds-rates-i-in-loop-i c = omega arith
-
-pub bounds-rates-i-in-loop-i : goal.bounds-rates-i-in-loop-i
-bounds-rates-i-in-loop-i c = omega arith
-
-pub overflow_add-i : goal.overflow_add-i
-overflow_add-i c = omega arith
-
-pub loop-i-smaller : goal.loop-i-smaller
-loop-i-smaller c = omega arith
-
 pub loop-i-preserved : goal.loop-i-preserved
 loop-i-preserved c =
     (put_next c.loop-i.invariant.0 (omega arith), put_next c.loop-i.invariant.1 (omega arith))

@@ -1,5 +1,4 @@
 -- `roster::rerated` meets its contract: the arrays it makes are those of the definition.
-use borrow.Author.Rules.{rules}
 use native.Mathlib.Omega.{arith}
 use Prim.Native.Nat.{◌<◌}
 use mathlib.Core.Path.{◌≡◌, sym}
@@ -11,9 +10,6 @@ use Rattle.roster.proofs.Made.{made_rerated}
 use Rattle.std.proofs.Common.{◌∙◌}
 use Rattle.roster.proofs.rerated.Goals as goal
 use Rattle.roster.proofs.rerated.Goals.{After-place_in-p, Else-not-may_rerate}
-
-pub may_rerate-requires : goal.may_rerate-requires
-may_rerate-requires c = search rules
 
 pub returns-then-not-may_rerate : goal.returns-then-not-may_rerate
 returns-then-not-may_rerate c = sym (rerated_not _ _ _ (sym c.may_rerate.ensures ∙ c.if-not-may_rerate.true))

@@ -9,15 +9,6 @@ use Rattle.roster.proofs.valid.Goals as goal
 pub returns-then-n-gt256 : goal.returns-then-n-gt256
 returns-then-n-gt256 c = sym (too_many _ c.if-n-gt256.true)
 
-pub slice_bounds-places_right-end : goal.slice_bounds-places_right-end
-slice_bounds-places_right-end c = search rules
-
-pub slice_bounds-places_right-end-2 : goal.slice_bounds-places_right-end-2
-slice_bounds-places_right-end-2 c = search rules
-
-pub places_right-requires : goal.places_right-requires
-places_right-requires c = search rules
-
 pub returns : goal.returns
 returns c =
     let r = c.args.r in

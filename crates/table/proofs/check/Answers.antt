@@ -1,5 +1,4 @@
 -- `table::check` meets its contract: a stranger, a wrong count, or a table that belongs.
-use borrow.Author.Rules.{rules}
 use mathlib.Core.Path.{◌≡◌, sym, ap, ap₂, ◌∙◌}
 use mathlib.Core.Bool.{not}
 use lib.ListN.{length}
@@ -15,9 +14,6 @@ use Rattle.table.proofs.Owners.{front_owners, front_fits, front_rise, front_shar
 use Rattle.table.proofs.Replies.{sizes_sized, slots-few, check_sizes, stranger_is, check_stranger, check_count, check_belongs}
 use Rattle.table.proofs.check.Goals as goal
 use Rattle.table.proofs.check.Goals.{After-first_stranger-i, After-tally-freed, Else-a-ne0}
-
-pub sizes_answer-a-requires : goal.sizes_answer-a-requires
-sizes_answer-a-requires c = search rules
 
 pub returns-then-a-ne0 : goal.returns-then-a-ne0
 returns-then-a-ne0 c = sym (check_sizes _ _ _ _ c.sizes_answer-a.ensures c.if-a-ne0.true)
@@ -42,7 +38,7 @@ first_stranger-i-requires c = front_rise _ (sized (goal.at.first_stranger-i-requ
 found : (c : After-first_stranger-i) → let args = c.args in c.first_stranger-i.result ≡ stranger args.r args.table.now
 found c =
     let args = c.args in
-    let z = (let it : (let args = c.args in Sized args.r args.slots args.table.now) = sizes_sized _ _ _ (sym c.sizes_answer-a.ensures ∙ c.if-a-ne0.false) in it) in
+    let z : Sized args.r args.slots args.table.now = sizes_sized _ _ _ (sym c.sizes_answer-a.ensures ∙ c.if-a-ne0.false) in
     c.first_stranger-i.ensures
     ∙ ap (λ h. first (length args.table.now) (λ i. not (is_on h (at args.table.now i)))) (front_owners _ z.valid_roster 0 _ c.owner_count-n.ensures)
     ∙ stranger_is _ _ _ z
@@ -75,7 +71,8 @@ tally-freed-requires c =
 counted : (c : After-tally-freed) → let args = c.args in c.tally-freed.result ≡ freed_slots args.r args.slots args.table.now
 counted c =
     let args = c.args in
-    let v = ((let it : (let args = c.args in Sized args.r args.slots args.table.now) = sizes_sized _ _ _ (sym c.sizes_answer-a.ensures ∙ c.if-a-ne0.false) in it)).valid_roster in
+    let z : Sized args.r args.slots args.table.now = sizes_sized _ _ _ (sym c.sizes_answer-a.ensures ∙ c.if-a-ne0.false) in
+    let v = z.valid_roster in
     let n = c.owner_count-n.ensures in
     c.tally-freed.ensures.counted
     ∙ ap₂ (λ h q. frees (quota_of h q) args.table.now) (front_owners _ v 0 _ n) (front_shares _ v _ _ n _ c.share_list-room.ensures)

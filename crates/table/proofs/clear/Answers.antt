@@ -10,18 +10,6 @@ use Rattle.table.proofs.clear.Goals as goal
 pub loop-i-init : goal.loop-i-init
 loop-i-init c = (omega arith, refl, fill_none _ 0)
 
-pub offset_bounds-table-i : goal.offset_bounds-table-i
-offset_bounds-table-i c = omega arith
-
-pub bounds-table-i : goal.bounds-table-i
-bounds-table-i c = omega arith
-
-pub overflow_add-i : goal.overflow_add-i
-overflow_add-i c = omega arith
-
-pub loop-i-smaller : goal.loop-i-smaller
-loop-i-smaller c = omega arith
-
 pub loop-i-preserved : goal.loop-i-preserved
 loop-i-preserved c =
     (omega arith, length-set c.loop-i.table c.loop-i.i 0 ∙ c.loop-i.invariant.1, ap (λ l. set l c.loop-i.i 0) c.loop-i.invariant.2 ∙ fill_more c.loop-i.i 0 _ (omega arith))

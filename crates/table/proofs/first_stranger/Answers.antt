@@ -13,47 +13,14 @@ use Rattle.table.proofs.first_stranger.Goals as goal
 pub slots-init : goal.slots-init
 slots-init c = (omega arith, λ k l. absurd (omega arith))
 
-pub offset_bounds-table-i : goal.offset_bounds-table-i
-offset_bounds-table-i c = omega arith
-
-pub bounds-table-i : goal.bounds-table-i
-bounds-table-i c = omega arith
-
 pub loop-hi-init : goal.loop-hi-init
 loop-hi-init c = narrow_start _ _
-
-pub overflow_sub-mid : goal.overflow_sub-mid
-overflow_sub-mid c = omega arith
-
-pub overflow_add-mid : goal.overflow_add-mid
-overflow_add-mid c = omega arith
-
-pub offset_bounds-hosts-mid : goal.offset_bounds-hosts-mid
-offset_bounds-hosts-mid c = omega arith
-
-pub bounds-hosts-mid : goal.bounds-hosts-mid
-bounds-hosts-mid c = omega arith
-
-pub overflow_add-lo : goal.overflow_add-lo
-overflow_add-lo c = omega arith
-
-pub loop-hi-smaller-then-host-owner-2 : goal.loop-hi-smaller-then-host-owner-2
-loop-hi-smaller-then-host-owner-2 c = omega arith
 
 pub loop-hi-preserved-then-host-owner-2 : goal.loop-hi-preserved-then-host-owner-2
 loop-hi-preserved-then-host-owner-2 c = narrow_up c.loop-hi.invariant _ (omega arith) (omega arith) c.if-host-owner-2.true
 
-pub loop-hi-smaller : goal.loop-hi-smaller
-loop-hi-smaller c = omega arith
-
 pub loop-hi-preserved : goal.loop-hi-preserved
 loop-hi-preserved c = narrow_down c.loop-hi.invariant _ (omega arith) (omega arith) c.if-host-owner-2.false c.if-host-owner.false
-
-pub overflow_add-i : goal.overflow_add-i
-overflow_add-i c = omega arith
-
-pub slots-smaller : goal.slots-smaller
-slots-smaller c = omega arith
 
 pub slots-preserved : goal.slots-preserved
 slots-preserved c =

@@ -14,12 +14,6 @@ loop-i-init c =
     let pre = c.requires in
     hand_start _ _ _ _ pre.known.1 pre.known.2 pre.enough
 
-pub offset_bounds-table-i : goal.offset_bounds-table-i
-offset_bounds-table-i c = omega arith
-
-pub bounds-table-i : goal.bounds-table-i
-bounds-table-i c = omega arith
-
 pub seat-p-requires : goal.seat-p-requires
 seat-p-requires c = (c.requires.known.0, c.loop-i.invariant.a_room_each)
 
@@ -39,25 +33,13 @@ seated c =
 short-place : (c : After-next_short-next) → c.next_short-next.result < length c.args.hosts.now
 short-place c =
     let rises = c.requires.known.0 in
-    some_short rises c.loop-i.invariant ((let it : (c.loop-i.i < length c.args.table.now) = omega (arith, c.loop-i-test.true, c.loop-i.invariant.as_long) in it)) _ ((let it : (let args = c.args in Seat args.hosts.now c.loop-i.room (at args.table.now c.loop-i.i) c.seat-p.result) = let rises = c.requires.known.0 in subst (λ o. Seat c.args.hosts.now c.loop-i.room o c.seat-p.result) (untouched rises c.loop-i.invariant ((let it : (c.loop-i.i < length c.args.table.now) = omega (arith, c.loop-i-test.true, c.loop-i.invariant.as_long) in it))) c.seat-p.ensures in it)) c.if-p-hosts.false _ c.next_short-next.ensures
-
-pub offset_bounds-room-p : goal.offset_bounds-room-p
-offset_bounds-room-p c = omega arith
-
-pub bounds-room-p : goal.bounds-room-p
-bounds-room-p c = omega arith
+    let within : c.loop-i.i < length c.args.table.now = omega (arith, c.loop-i-test.true, c.loop-i.invariant.as_long) in
+    let owner = untouched rises c.loop-i.invariant within in
+    let seated = subst (λ o. Seat c.args.hosts.now c.loop-i.room o c.seat-p.result) owner c.seat-p.ensures in
+    some_short rises c.loop-i.invariant within _ seated c.if-p-hosts.false _ c.next_short-next.ensures
 
 pub overflow_sub-room : goal.overflow_sub-room
 overflow_sub-room c = c.seat-p.ensures.has_room c.if-p-hosts.true
-
-pub bounds-room-p-then-p-hosts : goal.bounds-room-p-then-p-hosts
-bounds-room-p-then-p-hosts c = omega arith
-
-pub overflow_add-i : goal.overflow_add-i
-overflow_add-i c = omega arith
-
-pub loop-i-smaller-then-p-hosts : goal.loop-i-smaller-then-p-hosts
-loop-i-smaller-then-p-hosts c = omega arith
 
 pub loop-i-preserved-then-p-hosts : goal.loop-i-preserved-then-p-hosts
 loop-i-preserved-then-p-hosts c =
@@ -71,12 +53,6 @@ offset_bounds-hosts-next c = omega (arith, short-place c)
 
 pub bounds-hosts-next : goal.bounds-hosts-next
 bounds-hosts-next c = short-place (goal.at.bounds-hosts-next c).After-next_short-next
-
-pub offset_bounds-table-i-in-loop-i : goal.offset_bounds-table-i-in-loop-i
-offset_bounds-table-i-in-loop-i c = omega arith
-
-pub bounds-table-i-in-loop-i : goal.bounds-table-i-in-loop-i
-bounds-table-i-in-loop-i c = omega arith
 
 pub offset_bounds-short-next : goal.offset_bounds-short-next
 offset_bounds-short-next c = omega (arith, short-place (goal.at.offset_bounds-short-next c).After-next_short-next)
@@ -92,24 +68,9 @@ overflow_sub-short c =
 pub bounds-short-next-in-loop-i : goal.bounds-short-next-in-loop-i
 bounds-short-next-in-loop-i c = omega (arith, short-place (goal.at.bounds-short-next-in-loop-i c).After-next_short-next, c.loop-i.invariant.a_lack_each)
 
-pub overflow_add-i-in-loop-i : goal.overflow_add-i-in-loop-i
-overflow_add-i-in-loop-i c = omega arith
-
-pub loop-i-smaller : goal.loop-i-smaller
-loop-i-smaller c = omega arith
-
 pub loop-i-preserved : goal.loop-i-preserved
 loop-i-preserved c =
     hand_freed c.requires.known.0 c.loop-i.invariant (within (goal.at.loop-i-preserved c).After-seat-p) _ (seated (goal.at.loop-i-preserved c).After-seat-p) c.if-p-hosts.false _ c.next_short-next.ensures
-
-pub shape_of-room : goal.shape_of-room
-shape_of-room c = omega arith
-
-pub shape_of-short : goal.shape_of-short
-shape_of-short c = omega arith
-
-pub shape_of-table : goal.shape_of-table
-shape_of-table c = omega arith
 
 pub returns : goal.returns
 returns c = hand_done c.loop-i.invariant (omega arith)

@@ -1,5 +1,4 @@
 -- `table::layout` meets its contract: from a table of zeros the mover gives each host its quota in a row.
-use borrow.Author.Rules.{rules}
 use mathlib.Core.Path.{sym, ap, ◌∙◌}
 use lib.ListN.{replicate}
 use Rattle.table.specs.Answers.{move_answer, moved_to}
@@ -8,24 +7,12 @@ use Rattle.table.proofs.Moves.{blank_sized, fresh-moved}
 use Rattle.table.proofs.Replies.{sizes_sized, move_accepted, moved-to, layout_refused, layout_done}
 use Rattle.table.proofs.layout.Goals as goal
 
-pub sizes_answer-a-requires : goal.sizes_answer-a-requires
-sizes_answer-a-requires c = search rules
-
 pub returns-then-a-ne0 : goal.returns-then-a-ne0
 returns-then-a-ne0 c = let m = layout_refused _ _ _ _ c.sizes_answer-a.ensures c.if-a-ne0.true in
     record {
       answer = sym m.0;
       owners = sym m.1;
     }
-
-pub clear-requires : goal.clear-requires
-clear-requires c = search rules
-
-pub rearrange-m-requires : goal.rearrange-m-requires
-rearrange-m-requires c = search rules
-
-pub shape_of-table : goal.shape_of-table
-shape_of-table c = search rules
 
 pub returns : goal.returns
 returns c =

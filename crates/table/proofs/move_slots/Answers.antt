@@ -1,5 +1,4 @@
 -- `table::move_slots` meets its contract: the freed slots are as many as the hosts lack, so they are handed over.
-use borrow.Author.Rules.{rules}
 use mathlib.Core.Path.{◌≡◌, sym, ap, ◌∙◌}
 use native.Mathlib.Nat.{le_of_eq}
 use lib.ListN.{length}
@@ -33,15 +32,6 @@ hand_over-requires c =
       known = (fit.rise, fit.a_quota_each, ap length (lacking (goal.at.hand_over-requires c).After-tally-freed) ∙ long);
       enough = rw (lacking (goal.at.hand_over-requires c).After-tally-freed) (le_of_eq (freed_is_frees _ _ _ ∙ freed_is_lacking _ _ _ fit ∙ sym (runs-length _ _ long)));
     }
-
-pub shape_of-room : goal.shape_of-room
-shape_of-room c = search rules
-
-pub shape_of-short : goal.shape_of-short
-shape_of-short c = search rules
-
-pub shape_of-table : goal.shape_of-table
-shape_of-table c = search rules
 
 pub returns : goal.returns
 returns c =

@@ -10,22 +10,10 @@ use Rattle.table.proofs.next_short.Goals as goal
 pub loop-p-init : goal.loop-p-init
 loop-p-init c = (omega arith, omega arith, λ j l h. absurd (omega arith))
 
-pub offset_bounds-lacks-p : goal.offset_bounds-lacks-p
-offset_bounds-lacks-p c = omega arith
-
-pub bounds-lacks-p : goal.bounds-lacks-p
-bounds-lacks-p c = omega arith
-
 pub returns-then-lacks-p-ne0 : goal.returns-then-lacks-p-ne0
 returns-then-lacks-p-ne0 c =
     let found = c.loop-p.invariant in
     record { behind = found.0; within = found.1; none_between = found.2; short = λ l. pos_of_ne-zero c.if-lacks-p-ne0.true }
-
-pub overflow_add-p : goal.overflow_add-p
-overflow_add-p c = omega arith
-
-pub loop-p-smaller : goal.loop-p-smaller
-loop-p-smaller c = omega arith
 
 pub loop-p-preserved : goal.loop-p-preserved
 loop-p-preserved c =

@@ -1,5 +1,4 @@
 -- `table::rearrange` meets its contract: the mover on the roster's owners and shares.
-use borrow.Author.Rules.{rules}
 use mathlib.Core.Path.{refl, sym, ap₂, ◌∙◌}
 use lib.ListN.{length}
 use lib.Seq.{length-take-le}
@@ -9,9 +8,6 @@ use Rattle.table.proofs.Owners.{front_owners, front_fits, front_shares, shares_f
 use Rattle.table.proofs.Replies.{sizes_sized, slots-few, move_sizes, moved-to, move_done}
 use Rattle.table.proofs.rearrange.Goals as goal
 use Rattle.table.proofs.rearrange.Goals.{Else-a-ne0}
-
-pub sizes_answer-a-requires : goal.sizes_answer-a-requires
-sizes_answer-a-requires c = search rules
 
 pub returns-then-a-ne0 : goal.returns-then-a-ne0
 returns-then-a-ne0 c = let m = move_sizes _ _ _ _ c.sizes_answer-a.ensures c.if-a-ne0.true in
@@ -56,9 +52,6 @@ move_slots-freed-requires c =
       fits = (front_fitting _ z.valid_roster _ _ n _ c.share_list-room.ensures _ z.that_long, refl);
       small = slots-few z;
     }
-
-pub shape_of-table : goal.shape_of-table
-shape_of-table c = search rules
 
 pub returns : goal.returns
 returns c =

@@ -1,5 +1,4 @@
 -- `table::share_list` meets its contract: nobody has all, or each host its quota.
-use borrow.Author.Rules.{rules}
 use borrow.Author.Tests.{eq-eqb, ne_eqb}
 use native.Mathlib.Omega.{arith}
 use mathlib.Core.Path.{sym, ap, ◌∙◌}
@@ -8,12 +7,6 @@ use Rattle.base.specs.Lists.{padded}
 use Rattle.roster.proofs.Facts.{facts, length-rates}
 use Rattle.table.proofs.Owners.{shares-none, shares-given}
 use Rattle.table.proofs.share_list.Goals as goal
-
-pub zeros-all-requires : goal.zeros-all-requires
-zeros-all-requires c = search rules
-
-pub bounds-all-0 : goal.bounds-all-0
-bounds-all-0 c = search rules
 
 pub returns-then-n-eq0 : goal.returns-then-n-eq0
 returns-then-n-eq0 c =
@@ -24,9 +17,6 @@ slice_bounds-rates-end c = let f = facts _ c.requires.0 in omega (arith, f.few, 
 
 pub slice_bounds-quotas-end : goal.slice_bounds-quotas-end
 slice_bounds-quotas-end c = sym (length-rates _ (facts _ c.requires.0))
-
-pub quotas-requires : goal.quotas-requires
-quotas-requires c = search rules
 
 pub returns : goal.returns
 returns c =

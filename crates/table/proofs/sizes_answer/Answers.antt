@@ -1,5 +1,4 @@
 -- `table::sizes_answer` meets its contract: each test decides its row.
-use borrow.Author.Rules.{rules}
 use borrow.Author.Tests.{eq-eqb, ne_eqb}
 use mathlib.Core.Path.{◌≡◌}
 use mathlib.Core.Bool.{true, ◌&&◌}
@@ -11,9 +10,6 @@ use Rattle.std.proofs.Common.{◌∙◌}
 use Rattle.std.proofs.Common.{sym}
 use Rattle.table.proofs.sizes_answer.Goals as goal
 use Rattle.table.proofs.sizes_answer.Goals.{Else-length-slots, Else-not-slots_fit}
-
-pub slots_fit-requires : goal.slots_fit-requires
-slots_fit-requires c = search rules
 
 pub returns-then-not-slots_fit : goal.returns-then-not-slots_fit
 unfolding lowest
@@ -29,10 +25,7 @@ returns-then-length-slots c = rw (fits (goal.at.returns-then-length-slots c).Els
 
 -- past the second the table has that length
 sized : (c : Else-length-slots) → let args = c.args in (slots_fit args.slots && eqb args.length args.slots) ≡ true
-sized c = and_both _ _ ((let it : (slots_fit c.args.slots ≡ true) = sym c.slots_fit.ensures ∙ c.if-not-slots_fit.false in it)) (eq-eqb _ _ c.if-length-slots.false)
-
-pub valid-requires : goal.valid-requires
-valid-requires c = search rules
+sized c = and_both _ _ (sym c.slots_fit.ensures ∙ c.if-not-slots_fit.false) (eq-eqb _ _ c.if-length-slots.false)
 
 pub returns-then-not-valid : goal.returns-then-not-valid
 unfolding lowest

@@ -6,49 +6,19 @@ use Rattle.table.proofs.tally.Goals as goal
 pub loop-i-init : goal.loop-i-init
 loop-i-init c = tally_start _ _ _ c.requires.1
 
-pub offset_bounds-table-i : goal.offset_bounds-table-i
-offset_bounds-table-i c = omega arith
-
-pub bounds-table-i : goal.bounds-table-i
-bounds-table-i c = omega arith
-
 pub seat-p-requires : goal.seat-p-requires
 seat-p-requires c = (c.requires.0, c.loop-i.invariant.as_long)
 
-pub overflow_add-i : goal.overflow_add-i
-overflow_add-i c = omega arith
-
-pub offset_bounds-room-p : goal.offset_bounds-room-p
-offset_bounds-room-p c = omega arith
-
-pub bounds-room-p : goal.bounds-room-p
-bounds-room-p c = omega arith
-
 pub overflow_sub-room : goal.overflow_sub-room
 overflow_sub-room c = omega (arith, c.seat-p.ensures.has_room c.if-p-hosts.true)
-
-pub bounds-room-p-then-p-hosts : goal.bounds-room-p-then-p-hosts
-bounds-room-p-then-p-hosts c = omega arith
-
-pub loop-i-smaller-then-p-hosts : goal.loop-i-smaller-then-p-hosts
-loop-i-smaller-then-p-hosts c = omega arith
 
 pub loop-i-preserved-then-p-hosts : goal.loop-i-preserved-then-p-hosts
 loop-i-preserved-then-p-hosts c =
     tally_kept c.requires.0 c.loop-i.invariant c.loop-i-test.true _ c.seat-p.ensures c.if-p-hosts.true
 
-pub overflow_add-freed : goal.overflow_add-freed
-overflow_add-freed c = omega arith
-
-pub loop-i-smaller : goal.loop-i-smaller
-loop-i-smaller c = omega arith
-
 pub loop-i-preserved : goal.loop-i-preserved
 loop-i-preserved c =
     tally_freed c.requires.0 c.loop-i.invariant c.loop-i-test.true _ c.seat-p.ensures c.if-p-hosts.false
-
-pub shape_of-room : goal.shape_of-room
-shape_of-room c = omega arith
 
 pub returns : goal.returns
 returns c =
