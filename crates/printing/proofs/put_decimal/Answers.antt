@@ -4,16 +4,8 @@ use Prim.Native.Nat.{◌+◌}
 use mathlib.Core.Path.{ap, ◌∙◌}
 use lib.ListN.{length}
 use Rattle.printing.specs.Wrote.{wrote}
-use Rattle.stream.proofs.Texts.{length-decimal}
 use Rattle.printing.proofs.Texts.{decimal-text}
 use Rattle.printing.proofs.put_decimal.Goals as goal
-
-pub put-requires : goal.put-requires
-put-requires c =
-    let args = c.args in
-    let made = c.decimal-k.ensures in
-    let text = made.digits ∙ decimal-text args.value _ (omega arith) made.len in
-    omega (arith, ap length text, length-decimal 19 args.value)
 
 pub returns : goal.returns
 returns c =
