@@ -2,12 +2,11 @@
 #![tactic(auto)]
 
 ghost use Rattle.std.specs.Prelude.{◌≡◌, false, ◌≤◌, ◌<◌, length, replicate};
-ghost use Rattle.std.specs.Io.{ReadsAtMost};
 ghost use Rattle.serving.specs.Served.{Faithful};
 ghost use Rattle.serving.specs.Turns.{Holding, Led, ReadOn};
 
 use std::io;
-use std::io::{Error, ErrorKind, Read, Write};
+use std::io::{Error, Read, Write};
 use stream::State;
 
 // What a turn leaves: the state, how many bytes of the buffer are held, whether there is a next turn, and, at the end, whether nothing read is left to take.
@@ -74,23 +73,6 @@ fn at_end<W: Write, E: Write>(
     write(output, errors, &out[..n]);
 }
 
-// Reads once; a read that is interrupted is made again.
-fn read<R: Read>(input: &mut R, buf: &mut [u8]) -> io::Result<usize>
-    ensures { ReadsAtMost result buf.new }
-{
-    for _ in 0..u64::MAX {
-        match input.read(buf) {
-            Ok(n) => return Ok(n),
-            Err(why) => {
-                if why.kind() != ErrorKind::Interrupted {
-                    return Err(why);
-                }
-            }
-        }
-    }
-    Err(Error::from(ErrorKind::Interrupted))
-}
-
 // Reads behind the bytes held, of which no line is to be taken; at the end of the input writes what that means.
 fn more<R: Read, W: Write, E: Write>(
     state: State,
@@ -104,7 +86,7 @@ fn more<R: Read, W: Write, E: Write>(
     requires { held < length buf.old }
     ensures { ReadOn result state buf.old buf.new held }
 {
-    let got = match read(input, &mut buf[held..]) {
+    let got = match input.read(&mut buf[held..]) {
         Ok(n) => n,
         Err(why) => {
             say(errors, "read", why);
