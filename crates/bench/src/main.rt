@@ -2,12 +2,13 @@
 // It prints a sum of what came out for each; `stdout` comes from bench/plain.c, never from this program.
 #![tactic(auto)]
 
-ghost use Rattle.std.specs.Prelude.{◌≤◌};
+ghost use Rattle.std.specs.Prelude.{◌≤◌, length};
 
 use events::Event;
 use lines::Number;
 use roster::Roster;
-use std::{env, io};
+use std::env::{Env, FillError};
+use std::io;
 
 // How much work is asked for.
 #[derive(Clone, Copy)]
@@ -182,41 +183,57 @@ fn run(letter: u8, task: Task) -> u32 {
     }
 }
 
-// The first letter of a text, or 0.
-fn letter_in(text: &str) -> u8 {
-    match text.as_bytes().first() {
-        Some(letter) => *letter,
-        None => 0,
+// Puts an argument at the start of a text, and answers its length: 0 where it is missing or too long.
+fn argument(rt: &impl Env, i: usize, text: &mut [u8]) -> usize
+    ensures { result ≤ length text.new }
+{
+    match rt.arg(i, text) {
+        Ok(n) => n,
+        Err(_) => 0,
     }
 }
 
-// The number that a text says, or 0.
-fn number_in(text: &str) -> u32 {
-    let found = lines::number_in(text.as_bytes());
+// Whether there is an argument, however long.
+fn is_given(rt: &impl Env, i: usize) -> bool {
+    let mut text = [0u8; 4096];
+    !matches!(rt.arg(i, &mut text), Err(FillError::NotPresent))
+}
+
+// The first letter of an argument, or 0.
+fn letter_in(rt: &impl Env, i: usize) -> u8 {
+    let mut text = [0u8; 4096];
+    let n = argument(rt, i, &mut text);
+    if n == 0 {
+        return 0;
+    }
+    text[0]
+}
+
+// The number that an argument says, or 0.
+fn number_in(rt: &impl Env, i: usize) -> u32 {
+    let mut text = [0u8; 4096];
+    let n = argument(rt, i, &mut text);
+    let found = lines::number_in(&text[..n]);
     match found {
         Number::Is(value) => value,
         Number::Spoilt => 0,
     }
 }
 
-// Runs a workload that four arguments name, and prints its sum; fewer name none.
-fn run_named(rt: &impl Print, words: &[String]) -> io::Result<()> {
-    let [name, turns, hosts, slots] = words else {
-        return Ok(());
-    };
-    let task = Task {
-        turns: number_in(turns.as_str()),
-        hosts: number_in(hosts.as_str()),
-        slots: number_in(slots.as_str()),
-    };
-    let sum = run(letter_in(name.as_str()), task);
-    println!(rt; "{sum}")
-}
-
+// Each four arguments name a workload; fewer, at the end, name none.
 fn main(rt: HostRuntime) -> io::Result<()> {
-    let words: Vec<String> = env::args(&rt)?.skip(1).collect(rt.alloc())?;
-    for named in words.chunks_exact(4) {
-        run_named(&rt, named)?;
+    for turn in 0..usize::MAX / 4 - 1 {
+        let i = 4 * turn + 1;
+        if !is_given(&rt, i + 3) {
+            break;
+        }
+        let task = Task {
+            turns: number_in(&rt, i + 1),
+            hosts: number_in(&rt, i + 2),
+            slots: number_in(&rt, i + 3),
+        };
+        let sum = run(letter_in(&rt, i), task);
+        println!(rt; "{sum}")?;
     }
     Ok(())
 }

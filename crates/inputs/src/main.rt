@@ -2,8 +2,10 @@
 // `stdout` comes from the second implementation under tests/, never from this program.
 #![tactic(auto)]
 
+use std::env::{Env, FillError};
 use std::fs::File;
-use std::{env, io};
+use std::io;
+use std::io::Write;
 
 // Serves the file of a name; one that cannot be opened is named among the errors.
 fn serve_file(rt: &HostRuntime, name: &str) -> io::Result<()> {
@@ -17,9 +19,25 @@ fn serve_file(rt: &HostRuntime, name: &str) -> io::Result<()> {
     }
 }
 
+// Serves the file that an argument names. The library opens no file whose name is not UTF-8.
+fn serve_named(rt: &HostRuntime, name: &[u8]) -> io::Result<()> {
+    match str::from_utf8(name) {
+        Ok(text) => serve_file(rt, text),
+        Err(_) => {
+            rt.stderr().write_all(name)?;
+            eprintln!(rt; ": the name is not UTF-8")
+        }
+    }
+}
+
 fn main(rt: HostRuntime) -> io::Result<()> {
-    for name in env::args(&rt)?.skip(1) {
-        serve_file(&rt, name.as_str())?;
+    for i in 1..usize::MAX {
+        let mut name = [0u8; 4096];
+        match rt.arg(i, &mut name) {
+            Ok(n) => serve_named(&rt, &name[..n])?,
+            Err(FillError::TooLong) => serve_file(&rt, "")?,
+            Err(FillError::NotPresent) => return Ok(()),
+        }
     }
     Ok(())
 }
