@@ -7,7 +7,7 @@ use Rattle.table.proofs.Replies.{check_zero, moved-to}
 use Rattle.events.specs.Events.{event_rows}
 use Rattle.events.proofs.Outcomes.{named-fits, stopped_by_check, event_decides, changed-sized, refused_reply, accepted_reply, new_table}
 use Rattle.events.proofs.apply.Goals as goal
-use Rattle.events.proofs.apply.Goals.{Else-a-ne0, Else-c-ne0}
+use Rattle.events.proofs.apply.Goals.{Else-a-ne0}
 
 pub returns-then-c-ne0 : goal.returns-then-c-ne0
 returns-then-c-ne0 c =
@@ -17,16 +17,17 @@ returns-then-c-ne0 c =
       owners = sym m.1;
     }
 
--- past the first test the check has answered 0
-checked-well : (c : Else-c-ne0) → let args = c.args in check_answer args.r args.slots args.table.now ≡ 0
-checked-well c = sym (ap (λ x. x.answer) c.check-c.ensures) ∙ c.if-c-ne0.false
-
 pub event_answer-a-requires : goal.event_answer-a-requires
-event_answer-a-requires c = (check_zero _ _ _ (checked-well c)).0.valid_roster
+event_answer-a-requires c =
+    let args = c.args in
+    let check : check_answer args.r args.slots args.table.now ≡ 0 = sym (ap (λ x. x.answer) c.check-c.ensures) ∙ c.if-c-ne0.false in
+    (check_zero _ _ _ check).0.valid_roster
 
 pub returns-then-a-ne0 : goal.returns-then-a-ne0
 returns-then-a-ne0 c =
-    let m = refused_reply _ _ _ _ _ (event_decides _ _ _ _ (checked-well (goal.at.returns-then-a-ne0 c).Else-c-ne0) ∙ sym c.event_answer-a.ensures) c.if-a-ne0.true in
+    let args = c.args in
+    let checked : check_answer args.r args.slots args.table.now ≡ 0 = sym (ap (λ x. x.answer) c.check-c.ensures) ∙ c.if-c-ne0.false in
+    let m = refused_reply _ _ _ _ _ (event_decides _ _ _ _ checked ∙ sym c.event_answer-a.ensures) c.if-a-ne0.true in
     record {
       reply = sym m.0;
       owners = sym m.1;
@@ -42,10 +43,10 @@ changed-next-requires c = let args = c.args in named-fits args.r args.event (eve
 pub returns : goal.returns
 returns c =
     let args = c.args in
-    let check = checked-well (goal.at.returns c).Else-c-ne0 in
-    let z = event_decides _ _ args.event _ check ∙ event-well (goal.at.returns c).Else-a-ne0 in
+    let well : check_answer args.r args.slots args.table.now ≡ 0 = sym (ap (λ x. x.answer) c.check-c.ensures) ∙ c.if-c-ne0.false in
+    let z = event_decides _ _ args.event _ well ∙ event-well (goal.at.returns c).Else-a-ne0 in
     let s = c.changed-next.ensures in
-    let size = changed-sized _ _ args.event _ check in
+    let size = changed-sized _ _ args.event _ well in
     let to = ap (λ r. moved_to r args.slots args.table.now) s ∙ moved-to _ _ _ size in
     let n = ap (λ x. x.count) c.rearrange-m.ensures.reply ∙ ap (changes args.table.now) to in
     record {
