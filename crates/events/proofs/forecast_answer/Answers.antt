@@ -3,7 +3,6 @@ use mathlib.Core.Path.{◌≡◌, ap, ◌∙◌}
 use mathlib.Core.Bool.{true}
 use Rattle.base.specs.Rows.{lowest}
 use Rattle.base.specs.Sizes.{host_fits, slots_fit}
-use Rattle.base.proofs.Tests.{refused, passed}
 use Rattle.roster.specs.Roster.{valid}
 use Rattle.events.specs.Events.{named}
 use Rattle.events.specs.Forecasts.{forecast_answer}
@@ -27,11 +26,11 @@ ready : (c : Else-not-valid) → valid c.args.r ≡ true
 ready c = sym c.valid.ensures ∙ c.if-not-valid.false
 
 named_well : (c : Else-not-host_fits) → host_fits (named c.args.event) ≡ true
-named_well c = passed (c.host_fits.ensures ∙ ap host_fits c.named.ensures) c.if-not-host_fits.false-raw
+named_well c = sym (c.host_fits.ensures ∙ ap host_fits c.named.ensures) ∙ c.if-not-host_fits.false
 
 pub returns-then-not-host_fits : goal.returns-then-not-host_fits
 unfolding forecast_answer lowest
-returns-then-not-host_fits c = rw (counted (goal.at.returns-then-not-host_fits c).Else-not-slots_fit, ready (goal.at.returns-then-not-host_fits c).Else-not-valid, refused (c.host_fits.ensures ∙ ap host_fits c.named.ensures) c.if-not-host_fits.true-raw)
+returns-then-not-host_fits c = rw (counted (goal.at.returns-then-not-host_fits c).Else-not-slots_fit, ready (goal.at.returns-then-not-host_fits c).Else-not-valid, sym (c.host_fits.ensures ∙ ap host_fits c.named.ensures) ∙ c.if-not-host_fits.true)
 
 pub returns-then-not-host_fits-2 : goal.returns-then-not-host_fits-2
 unfolding forecast_answer lowest

@@ -1,5 +1,4 @@
 -- `events::quota_of` meets its contract: the quota at the host's place, or 0.
-use borrow.Author.Tests.{not-true, not-false}
 use native.Mathlib.Omega.{arith}
 use Prim.Native.Nat.{◌<◌, zero-le}
 use mathlib.Core.Path.{◌≡◌, sym, ◌∙◌}
@@ -15,7 +14,7 @@ use Rattle.events.proofs.quota_of.Goals.{After-place-p}
 pub returns-then-not-may_drop : goal.returns-then-not-may_drop
 returns-then-not-may_drop c =
     record {
-      quota = sym (quota_off _ _ _ (on_roster _ _ _ c.requires.0 c.may_drop.ensures ∙ not-true c.may_drop.result c.if-not-may_drop.true-raw));
+      quota = sym (quota_off _ _ _ (on_roster _ _ _ c.requires.0 c.may_drop.ensures ∙ c.if-not-may_drop.true));
       small = zero-le;
     }
 
@@ -37,7 +36,7 @@ seated : (c : After-place-p) →
     (c.place-p.result ≡ place (hosts_of args.r) args.host) × (is_on (hosts_of args.r) args.host ≡ true)
 seated c = (
   c.place-p.ensures.sorted (hosts_rise _ (facts _ c.requires.0)),
-  on_roster _ _ _ c.requires.0 c.may_drop.ensures ∙ not-false c.may_drop.result c.if-not-may_drop.false-raw,
+  on_roster _ _ _ c.requires.0 c.may_drop.ensures ∙ c.if-not-may_drop.false,
 )
 
 -- and so below the count

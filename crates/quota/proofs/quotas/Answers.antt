@@ -1,5 +1,4 @@
 -- `quota::quotas` meets its contract: slots are given out from none held, and only within the sizes.
-use borrow.Author.Tests.{not-true, not-false}
 use native.Mathlib.Omega.{arith}
 use Prim.Native.Nat.{◌≤◌, ◌<◌}
 use native.Mathlib.Nat.{pos_of_ne-zero}
@@ -15,18 +14,18 @@ use Rattle.quota.proofs.quotas.Goals.{Else-n-eq0, Else-not-within_sizes}
 
 pub returns-then-not-within_sizes : goal.returns-then-not-within_sizes
 returns-then-not-within_sizes c =
-    c.none_held-held.ensures ∙ sym (given_outside _ c.args.slots (sym c.within_sizes.ensures ∙ not-true _ c.if-not-within_sizes.true-raw))
+    c.none_held-held.ensures ∙ sym (given_outside _ c.args.slots (sym c.within_sizes.ensures ∙ c.if-not-within_sizes.true))
 
 -- past the first test rates and slots are within the sizes
 within : (c : Else-not-within_sizes) → within_sizes c.args.rates.now c.args.slots ≡ true
-within c = sym c.within_sizes.ensures ∙ not-false _ c.if-not-within_sizes.false-raw
+within c = sym c.within_sizes.ensures ∙ c.if-not-within_sizes.false
 
 pub returns-then-n-eq0 : goal.returns-then-n-eq0
 returns-then-n-eq0 c = c.none_held-held.ensures ∙ sym (given-none _ _ (within (goal.at.returns-then-n-eq0 c).Else-not-within_sizes) c.if-n-eq0.true)
 
 -- and the hosts find room among the zeros
 room : (c : Else-n-eq0) → length c.args.rates.now ≤ length c.none_held-held.result
-room c = omega (arith, hosts_fit _ _ ((sym c.within_sizes.ensures ∙ not-false _ c.if-not-within_sizes.false-raw)), ap length c.none_held-held.ensures)
+room c = omega (arith, hosts_fit _ _ ((sym c.within_sizes.ensures ∙ c.if-not-within_sizes.false)), ap length c.none_held-held.ensures)
 
 pub slice_bounds-held-end : goal.slice_bounds-held-end
 slice_bounds-held-end c = room c

@@ -1,5 +1,4 @@
 -- `quota::within_sizes` meets its contract. The loop's invariant: every rate before place i fits.
-use borrow.Author.Tests.{not-true, not-false}
 use native.Mathlib.Omega.{arith}
 use mathlib.Core.Path.{◌≡◌, refl, sym, ap, ◌∙◌}
 use lib.ListN.{length}
@@ -21,12 +20,12 @@ loop-i-init c = (omega arith, refl)
 
 pub returns-then-not-rate_fits : goal.returns-then-not-rate_fits
 returns-then-not-rate_fits c =
-    let fails = sym c.rate_fits.ensures ∙ not-true _ c.if-not-rate_fits.true-raw in
+    let fails = sym c.rate_fits.ensures ∙ c.if-not-rate_fits.true in
     sym (rates_decide _ _ c.if-rates-gt256.false c.if-slots-gt16384.false ∙ all_fails _ _ c.loop-i.i c.loop-i-test.true fails)
 
 pub loop-i-preserved : goal.loop-i-preserved
 loop-i-preserved c =
-    (omega arith, all-next c.loop-i.i _ c.loop-i.invariant.1 (sym c.rate_fits.ensures ∙ not-false _ c.if-not-rate_fits.false-raw))
+    (omega arith, all-next c.loop-i.i _ c.loop-i.invariant.1 (sym c.rate_fits.ensures ∙ c.if-not-rate_fits.false))
 
 pub returns : goal.returns
 returns c =

@@ -1,14 +1,13 @@
 -- `roster::places_right` meets its contract. The loop's invariant: every place before i is right, and `last` is the number before i.
 use native.Mathlib.Omega.{arith}
 use native.Mathlib.Numerals.{add-one}
-use Prim.Native.Nat.{ℕ, ◌≤◌}
 use mathlib.Core.Path.{◌≡◌, refl, sym, ap, ◌∙◌}
 use lib.Dec.{ltb}
 use Rattle.base.specs.Tables.{all, at}
 use Rattle.base.proofs.Tests.{all-next, all_fails}
 use Rattle.roster.specs.Places.{last_before, place_right, right_at}
 use Rattle.roster.proofs.places_right.Goals as goal
-use Rattle.roster.proofs.places_right.Goals.{After-place_right, After-shared_slice_known-1}
+use Rattle.roster.proofs.places_right.Goals.{After-place_right}
 
 pub loop-i-init : goal.loop-i-init
 unfolding last_before all
@@ -22,16 +21,12 @@ here c =
     let args = c.args in
     c.place_right.ensures ∙ ap (λ l. place_right (ltb c.loop-i.i args.count) l (at args.hosts.now c.loop-i.i) (at args.rates.now c.loop-i.i)) c.loop-i.invariant.1
 
--- a number of 16 bits
-narrow : (c : After-shared_slice_known-1) → (i : ℕ) → at c.args.hosts.now i ≤ 65535
-narrow c i = omega (arith, c.shared_slice_known-1.given i)
-
 pub returns-then-not-place_right : goal.returns-then-not-place_right
 returns-then-not-place_right c =
     let fails = sym (here (goal.at.returns-then-not-place_right c).After-place_right) ∙ c.if-not-place_right.true in
     record {
       answer = sym (all_fails 256 _ c.loop-i.i (omega arith) fails);
-      narrow = narrow (goal.at.returns-then-not-place_right c).After-shared_slice_known-1;
+      narrow = λ i. omega (arith, c.type_inv.hosts i);
     }
 
 pub loop-i-preserved : goal.loop-i-preserved
@@ -48,5 +43,5 @@ returns c =
     let e : c.loop-i.i ≡ 256 = omega arith in
     record {
       answer = sym (ap (λ n. all n (right_at args.hosts.now args.rates.now args.count)) (sym e) ∙ c.loop-i.invariant.2);
-      narrow = narrow (goal.at.returns c).After-shared_slice_known-1;
+      narrow = λ i. omega (arith, c.type_inv.hosts i);
     }
