@@ -35,6 +35,7 @@ fn main(rt: HostRuntime) -> io::Result<()> {
         let mut name = [0u8; 4096];
         match rt.arg(i, &mut name) {
             Ok(n) => serve_named(&rt, &name[..n])?,
+            // no file has so long a name
             Err(FillError::TooLong) => serve_file(&rt, "")?,
             Err(FillError::NotPresent) => return Ok(()),
         }

@@ -63,6 +63,7 @@ pub fn start() -> State
 }
 
 // The number of the line that comes next, counted from 1. A word holds no more than the last one.
+#[tactic(auto, unfolding(crate::specs::Steps::next_number))]
 pub fn next_number(lines: u64) -> u64
     ensures { result ≡ steps.next_number lines }
 {

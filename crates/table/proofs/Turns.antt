@@ -187,6 +187,10 @@ module _ {hosts room₀ short₀ slots₀ room short slots : List ℕ} {next i :
   pub untouched : at slots i ≡ at slots₀ i
   untouched = ap (λ k. at k i) w.entries ∙ at_overlay whole slots₀ i i (rw (length-pass (quota_of hosts room₀) (runs hosts short₀) slots₀) (le_of_lt l)) (le_refl i)
 
+  -- so a seat of its owner now is one of its owner at the start
+  pub seated_from : (p : ℕ) → Seat hosts room (at slots i) p → Seat hosts room (at slots₀ i) p
+  seated_from p s = subst (λ owner. Seat hosts room owner p) untouched s
+
   long : length whole ≡ length slots₀
   long = length-pass (quota_of hosts room₀) (runs hosts short₀) slots₀
 

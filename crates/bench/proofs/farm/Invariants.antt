@@ -1,3 +1,4 @@
+-- `bench::farm` is safe and ends: the loop counts up to its bound.
 use Rattle.std.proofs.Common.{◌-◌}
 use Rattle.bench.proofs.farm.Given as goal
 

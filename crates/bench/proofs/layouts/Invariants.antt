@@ -1,3 +1,4 @@
+-- `bench::layouts` is safe and ends: the loop counts up to its bound, and keeps the length of the table.
 use Rattle.std.proofs.Common.{◌-◌}
 use Rattle.bench.proofs.layouts.Given as goal
 

@@ -1,3 +1,4 @@
+-- `bench::mixed_quotas` is safe and ends: the loop counts up to its bound.
 use Rattle.std.proofs.Common.{◌-◌, length}
 use Rattle.bench.proofs.mixed_quotas.Given as goal
 

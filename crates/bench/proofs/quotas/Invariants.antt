@@ -1,3 +1,4 @@
+-- `bench::quotas` is safe and ends: the loop counts up to its bound.
 use Rattle.std.proofs.Common.{◌-◌}
 use Rattle.bench.proofs.quotas.Given as goal
 

@@ -22,7 +22,7 @@ loop-number-preserved-then-passing c =
     let said = c.put_said-printed in
     let number = c.next_number-number.ensures in
     let is = c.pass_next-passing.ensures ∙ ap (λ n. passes_by turn.due n turn.state.slots turn.owners input turn.next) number in
-    rw number (kept_passed turn.invariant _ _ _ is (sym c.may_go_on.ensures ∙ c.loop-number-test.true) c.if-passing.true said.ensures.place said.ensures.bytes)
+    rw (← number) at (kept_passed turn.invariant _ _ _ is (sym c.may_go_on.ensures ∙ c.loop-number-test.true) c.if-passing.true said.ensures.place said.ensures.bytes)
 
 pub shape_of-owners-then-fed-next : goal.shape_of-owners-then-fed-next
 shape_of-owners-then-fed-next c = c.next_line-fed.auto.owners ∙ c.loop-number.invariant.lent

@@ -6,8 +6,7 @@ use Rattle.base.specs.Rows.{lowest}
 use Rattle.base.specs.Sizes.{rate_fits}
 use Rattle.roster.specs.Roster.{hosts_of, is_on}
 use Rattle.events.proofs.Checks.{host_narrow, on_roster}
-use Rattle.std.proofs.Common.{◌∙◌}
-use Rattle.std.proofs.Common.{sym}
+use Rattle.std.proofs.Common.{◌∙◌, sym}
 use Rattle.events.proofs.add_answer.Goals as goal
 use Rattle.events.proofs.add_answer.Goals.{After-may_drop, Else-not-rate_fits}
 

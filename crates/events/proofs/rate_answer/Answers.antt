@@ -1,7 +1,6 @@
 -- `events::rate_answer` meets its contract: its tests decide the rows one after the other.
 use Rattle.base.specs.Rows.{lowest}
-use Rattle.std.proofs.Common.{◌∙◌}
-use Rattle.std.proofs.Common.{sym}
+use Rattle.std.proofs.Common.{◌∙◌, sym}
 use Rattle.events.proofs.rate_answer.Goals as goal
 
 pub returns-then-not-rate_fits : goal.returns-then-not-rate_fits

@@ -1,4 +1,4 @@
--- `lines::brought` meets its contract: each case of what is due, by its place.
+-- `lines::brought` meets its contract: each case of what is due is one line of the definition.
 use mathlib.Core.Path.{sym, ap}
 use Rattle.lines.specs.Lines.{brings}
 use Rattle.lines.proofs.brought.Goals as goal

@@ -17,7 +17,7 @@ pub slice_bounds-number_in-start : goal.slice_bounds-number_in-start
 slice_bounds-number_in-start c = let long = starts_length _ _ (sym c.starts_with.ensures ∙ c.if-not-starts_with.false) in omega arith
 
 pub slice_bounds-number_in-count : goal.slice_bounds-number_in-count
-slice_bounds-number_in-count c = let long = starts_length _ _ (sym c.starts_with.ensures ∙ c.if-not-starts_with.false) in omega arith
+slice_bounds-number_in-count c = slice_bounds-number_in-start c
 
 pub returns : goal.returns
 unfolding field_of

@@ -1,7 +1,6 @@
 -- `lines::is_line` meets its contract: a line that starts with a text and is no longer is that text.
 use Rattle.lines.specs.Lines.{is_line}
-use Rattle.std.proofs.Common.{◌∙◌}
-use Rattle.std.proofs.Common.{sym}
+use Rattle.std.proofs.Common.{◌∙◌, sym}
 use Rattle.lines.proofs.is_line.Goals as goal
 
 pub returns-then-not-starts_with : goal.returns-then-not-starts_with

@@ -3,8 +3,7 @@ use native.Mathlib.Omega.{arith}
 use Rattle.lines.proofs.Starts.{part_from}
 use Rattle.lines.specs.Lines.{key_name, key_of}
 use Rattle.lines.proofs.Starts.{starts_length}
-use Rattle.std.proofs.Common.{◌∙◌}
-use Rattle.std.proofs.Common.{sym}
+use Rattle.std.proofs.Common.{◌∙◌, sym}
 use Rattle.lines.proofs.key.Goals as goal
 
 pub returns-then-not-starts_with : goal.returns-then-not-starts_with
@@ -15,7 +14,7 @@ pub slice_bounds-result-start : goal.slice_bounds-result-start
 slice_bounds-result-start c = let long = starts_length key_name _ (sym c.starts_with.ensures ∙ c.if-not-starts_with.false) in omega arith
 
 pub slice_bounds-result-count : goal.slice_bounds-result-count
-slice_bounds-result-count c = let long = starts_length key_name _ (sym c.starts_with.ensures ∙ c.if-not-starts_with.false) in omega arith
+slice_bounds-result-count c = slice_bounds-result-start c
 
 pub returns : goal.returns
 unfolding key_of

@@ -1,4 +1,4 @@
--- `lines::read_due` meets its contract: each case of what is due, by its place, is one line of the definition.
+-- `lines::read_due` meets its contract: each case of what is due is one line of the definition.
 use mathlib.Core.Path.{refl, sym, ap, ◌∙◌}
 use Rattle.lines.specs.Lines.{read_due, with_number}
 use Rattle.lines.proofs.Dues.{at_due}

@@ -1,3 +1,4 @@
+-- `quota::lightest` meets its contract. The loop's invariant: `best` is the first of the places before i whose next claim is lightest.
 use native.Mathlib.Omega.{arith}
 use mathlib.Core.Path.{◌≡◌, refl, sym, ap, ◌∙◌}
 use Rattle.quota.specs.Greedy.{least}
@@ -6,12 +7,10 @@ use lib.ListN.{length}
 use Rattle.quota.proofs.lightest.Goals.{then-next_is_lighter, else-next_is_lighter}
 use Rattle.quota.proofs.lightest.Goals as goal
 
--- src/lib.rt:62:5
 pub loop-i-init : goal.loop-i-init
 unfolding least
 loop-i-init c = (omega arith, omega arith, refl)
 
--- src/lib.rt:62:5
 pub loop-i-preserved : goal.loop-i-preserved
 loop-i-preserved c =
     let rates = c.args.rates.now in
@@ -25,7 +24,6 @@ loop-i-preserved c =
           (omega arith, omega (arith, w.best-is), w.best-is ∙ least_kept rates held c.loop-i.i c.loop-i.best so_far (sym answer ∙ w.if-next_is_lighter.false))
     ]
 
--- src/lib.rt:56:1
 pub returns : goal.returns
 returns c =
     let rates = c.args.rates.now in

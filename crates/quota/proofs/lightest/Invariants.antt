@@ -1,3 +1,4 @@
+-- `quota::lightest` meets its contract. The loop's invariant: `best` is the first of the places before i whose next claim is lightest.
 use Prim.Native.Nat.{◌-◌, ◌≤◌}
 use mathlib.Core.Path.{◌≡◌}
 use Rattle.quota.specs.Greedy.{least}

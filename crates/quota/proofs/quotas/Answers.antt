@@ -25,7 +25,7 @@ returns-then-n-eq0 c = c.none_held-held.ensures ∙ sym (given-none _ _ (within 
 
 -- and the hosts find room among the zeros
 room : (c : Else-n-eq0) → length c.args.rates.now ≤ length c.none_held-held.result
-room c = omega (arith, hosts_fit _ _ ((sym c.within_sizes.ensures ∙ c.if-not-within_sizes.false)), ap length c.none_held-held.ensures)
+room c = omega (arith, hosts_fit _ _ (sym c.within_sizes.ensures ∙ c.if-not-within_sizes.false), ap length c.none_held-held.ensures)
 
 pub slice_bounds-held-end : goal.slice_bounds-held-end
 slice_bounds-held-end c = room c

@@ -8,8 +8,7 @@ use Rattle.base.specs.Sizes.{host_fits, rate_fits}
 use Rattle.base.proofs.Tests.{and_both}
 use Rattle.roster.specs.Roster.{valid}
 use Rattle.roster.specs.Changes.{may_add}
-use Rattle.std.proofs.Common.{◌∙◌}
-use Rattle.std.proofs.Common.{sym}
+use Rattle.std.proofs.Common.{◌∙◌, sym}
 use Rattle.roster.proofs.may_add.Goals as goal
 use Rattle.roster.proofs.may_add.Goals.{Else-host-eq0, Else-not-rate_fits, Else-not-valid}
 
@@ -42,7 +41,7 @@ is_listed-requires c = ready (goal.at.is_listed-requires c).Else-not-valid
 so_far : (c : Else-not-rate_fits) →
     let args = c.args in
     (valid args.r && host_fits args.host && rate_fits args.rate) ≡ true
-so_far c = rw ((sym c.valid.ensures ∙ c.if-not-valid.false), (let host = c.args.host in and_both _ _ (le-leb 1 host (pos_of_ne-zero c.if-host-eq0.false)) (le-leb host 65535 (omega arith))), sym c.rate_fits.ensures ∙ c.if-not-rate_fits.false)
+so_far c = rw (sym c.valid.ensures ∙ c.if-not-valid.false, (let host = c.args.host in and_both _ _ (le-leb 1 host (pos_of_ne-zero c.if-host-eq0.false)) (le-leb host 65535 (omega arith))), sym c.rate_fits.ensures ∙ c.if-not-rate_fits.false)
 
 pub returns-then-is_listed : goal.returns-then-is_listed
 unfolding may_add

@@ -3,8 +3,7 @@ use mathlib.Core.Path.{◌≡◌}
 use mathlib.Core.Bool.{true}
 use Rattle.roster.specs.Roster.{valid}
 use Rattle.roster.specs.Changes.{may_rerate}
-use Rattle.std.proofs.Common.{◌∙◌}
-use Rattle.std.proofs.Common.{sym}
+use Rattle.std.proofs.Common.{◌∙◌, sym}
 use Rattle.roster.proofs.may_rerate.Goals as goal
 use Rattle.roster.proofs.may_rerate.Goals.{Else-not-valid}
 

@@ -3,7 +3,6 @@ use native.Mathlib.Omega.{arith}
 use Rattle.roster.proofs.Shift.{put_start, put_next, put_done}
 use Rattle.roster.proofs.put_in.Goals as goal
 
--- src/lib.rt:168:5
 pub loop-i-init : goal.loop-i-init
 loop-i-init c = (put_start _ _ _ c.requires.0, put_start _ _ _ (rw c.requires.1 c.requires.0))
 

@@ -4,7 +4,6 @@ use lib.ListN.{length-set}
 use Rattle.roster.proofs.Shift.{take-start, take_next, take_done}
 use Rattle.roster.proofs.take_out.Goals as goal
 
--- src/lib.rt:186:5
 pub loop-i-init : goal.loop-i-init
 loop-i-init c = (take-start _ _ c.requires.0, take-start _ _ (rw c.requires.1 c.requires.0))
 

@@ -1,3 +1,4 @@
+-- `serving::turns` meets its contract: the loop's invariant: the lengths lent, and what is held is what the definition of reads leads to.
 use Rattle.std.proofs.Common.{◌≡◌, length}
 use Rattle.serving.specs.Turns.{Holding}
 use Rattle.serving.proofs.turns.Given as goal

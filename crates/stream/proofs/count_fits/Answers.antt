@@ -1,6 +1,5 @@
 -- `stream::count_fits` meets its contract: its tests are those of the definition.
-use Rattle.std.proofs.Common.{◌∙◌}
-use Rattle.std.proofs.Common.{sym}
+use Rattle.std.proofs.Common.{◌∙◌, sym}
 use Rattle.stream.proofs.count_fits.Goals as goal
 
 pub returns-then-not-slots_fit : goal.returns-then-not-slots_fit

@@ -1,11 +1,11 @@
 -- `stream::pass_line` meets its contract: each case of what the reader answered is one case of what is passed.
--- what the reader answered decides
 use mathlib.Core.Path.{◌≡◌, sym, ap, ◌∙◌}
 use Rattle.lines.specs.declared.Read.{Read}
 use Rattle.stream.specs.Passing.{passed, passes}
 use Rattle.stream.proofs.pass_line.Goals as goal
 use Rattle.stream.proofs.pass_line.Goals.{After-read_line-read}
 
+-- what the reader answered decides
 says : (c : After-read_line-read) (r : Read) → c.read_line-read.result ≡ r → let args = c.args in passed args.slots args.owners.now args.line.now r ≡ passes args.due args.number args.slots args.owners.now args.line.now
 unfolding passes
 says c r is = let args = c.args in ap (passed args.slots args.owners.now args.line.now) (sym is ∙ c.read_line-read.ensures)

@@ -35,16 +35,17 @@ pub first_stranger-i-requires : goal.first_stranger-i-requires
 first_stranger-i-requires c = front_rise _ (sized (goal.at.first_stranger-i-requires c).Else-a-ne0).valid_roster 0 _ c.owner_count-n.ensures
 
 -- the search has found the first stranger
-found : (c : After-first_stranger-i) → let args = c.args in c.first_stranger-i.result ≡ stranger args.r args.table.now
-found c =
+found : (c : After-first_stranger-i) → let args = c.args in Sized args.r args.slots args.table.now → c.first_stranger-i.result ≡ stranger args.r args.table.now
+found c z =
     let args = c.args in
-    let z : Sized args.r args.slots args.table.now = sizes_sized _ _ _ (sym c.sizes_answer-a.ensures ∙ c.if-a-ne0.false) in
     c.first_stranger-i.ensures
     ∙ ap (λ h. first (length args.table.now) (λ i. not (is_on h (at args.table.now i)))) (front_owners _ z.valid_roster 0 _ c.owner_count-n.ensures)
     ∙ stranger_is _ _ _ z
 
 pub returns-then-i-table : goal.returns-then-i-table
-returns-then-i-table c = sym (check_stranger _ _ _ (sized (goal.at.returns-then-i-table c).Else-a-ne0) _ (found (goal.at.returns-then-i-table c).After-first_stranger-i) c.if-i-table.true)
+returns-then-i-table c =
+    let z = sized (goal.at.returns-then-i-table c).Else-a-ne0 in
+    sym (check_stranger _ _ _ z _ (found (goal.at.returns-then-i-table c).After-first_stranger-i z) c.if-i-table.true)
 
 pub share_list-room-requires : goal.share_list-room-requires
 share_list-room-requires c = let z = sized (goal.at.share_list-room-requires c).Else-a-ne0 in (z.valid_roster, z.count_fits)
@@ -68,10 +69,9 @@ tally-freed-requires c =
     (front_rise _ z.valid_roster 0 _ n, front_each _ z.valid_roster _ _ n _ c.share_list-room.ensures, slots-few z)
 
 -- what was counted is what is freed
-counted : (c : After-tally-freed) → let args = c.args in c.tally-freed.result ≡ freed_slots args.r args.slots args.table.now
-counted c =
+counted : (c : After-tally-freed) → let args = c.args in Sized args.r args.slots args.table.now → c.tally-freed.result ≡ freed_slots args.r args.slots args.table.now
+counted c z =
     let args = c.args in
-    let z : Sized args.r args.slots args.table.now = sizes_sized _ _ _ (sym c.sizes_answer-a.ensures ∙ c.if-a-ne0.false) in
     let v = z.valid_roster in
     let n = c.owner_count-n.ensures in
     c.tally-freed.ensures.counted
@@ -79,7 +79,12 @@ counted c =
     ∙ freed_is_frees _ _ _
 
 pub returns-then-freed-ne0 : goal.returns-then-freed-ne0
-returns-then-freed-ne0 c = sym (check_count _ _ _ (sized (goal.at.returns-then-freed-ne0 c).Else-a-ne0) _ (found (goal.at.returns-then-freed-ne0 c).After-first_stranger-i) (λ e. c.if-freed-ne0.true (counted (goal.at.returns-then-freed-ne0 c).After-tally-freed ∙ e)))
+returns-then-freed-ne0 c =
+    let at = goal.at.returns-then-freed-ne0 c in
+    let z = sized at.Else-a-ne0 in
+    sym (check_count _ _ _ z _ (found at.After-first_stranger-i z) (λ e. c.if-freed-ne0.true (counted at.After-tally-freed z ∙ e)))
 
 pub returns : goal.returns
-returns c = sym (check_belongs _ _ _ (sized (goal.at.returns c).Else-a-ne0) (sym (counted (goal.at.returns c).After-tally-freed) ∙ c.if-freed-ne0.false))
+returns c =
+    let z = sized (goal.at.returns c).Else-a-ne0 in
+    sym (check_belongs _ _ _ z (sym (counted (goal.at.returns c).After-tally-freed z) ∙ c.if-freed-ne0.false))

@@ -1,11 +1,8 @@
 -- `table::hand_over` meets its contract. The loop's invariant is `Handed`; the measure is what is left of the table.
 use native.Mathlib.Omega.{arith}
 use Prim.Native.Nat.{◌<◌}
-use mathlib.Core.Path.{subst}
 use lib.ListN.{length}
-use Rattle.base.specs.Tables.{at}
-use Rattle.table.specs.Seat.{Seat}
-use Rattle.table.proofs.Turns.{hand_start, untouched, hand_kept, some_short, hand_freed, hand_done}
+use Rattle.table.proofs.Turns.{hand_start, seated_from, hand_kept, some_short, hand_freed, hand_done}
 use Rattle.table.proofs.hand_over.Goals as goal
 use Rattle.table.proofs.hand_over.Goals.{After-next_short-next, After-seat-p}
 
@@ -21,29 +18,21 @@ seat-p-requires c = (c.requires.known.0, c.loop-i.invariant.a_room_each)
 within : (c : After-seat-p) → c.loop-i.i < length c.args.table.now
 within c = omega (arith, c.loop-i-test.true, c.loop-i.invariant.as_long)
 
--- the seat found is that of the slot's owner at the start
-seated : (c : After-seat-p) →
-    let args = c.args in
-    Seat args.hosts.now c.loop-i.room (at args.table.now c.loop-i.i) c.seat-p.result
-seated c =
-    let rises = c.requires.known.0 in
-    subst (λ o. Seat c.args.hosts.now c.loop-i.room o c.seat-p.result) (untouched rises c.loop-i.invariant (within c)) c.seat-p.ensures
-
--- and where it has none, some host is short
+-- where it has no seat, some host is short
 short-place : (c : After-next_short-next) → c.next_short-next.result < length c.args.hosts.now
 short-place c =
     let rises = c.requires.known.0 in
     let within : c.loop-i.i < length c.args.table.now = omega (arith, c.loop-i-test.true, c.loop-i.invariant.as_long) in
-    let owner = untouched rises c.loop-i.invariant within in
-    let seated = subst (λ o. Seat c.args.hosts.now c.loop-i.room o c.seat-p.result) owner c.seat-p.ensures in
-    some_short rises c.loop-i.invariant within _ seated c.if-p-hosts.false _ c.next_short-next.ensures
+    some_short rises c.loop-i.invariant within _ (seated_from rises c.loop-i.invariant within _ c.seat-p.ensures) c.if-p-hosts.false _ c.next_short-next.ensures
 
 pub overflow_sub-room : goal.overflow_sub-room
 overflow_sub-room c = c.seat-p.ensures.has_room c.if-p-hosts.true
 
 pub loop-i-preserved-then-p-hosts : goal.loop-i-preserved-then-p-hosts
 loop-i-preserved-then-p-hosts c =
-    hand_kept c.requires.known.0 c.loop-i.invariant (within (goal.at.loop-i-preserved-then-p-hosts c).After-seat-p) _ (seated (goal.at.loop-i-preserved-then-p-hosts c).After-seat-p) c.if-p-hosts.true
+    let rises = c.requires.known.0 in
+    let on = within (goal.at.loop-i-preserved-then-p-hosts c).After-seat-p in
+    hand_kept rises c.loop-i.invariant on _ (seated_from rises c.loop-i.invariant on _ c.seat-p.ensures) c.if-p-hosts.true
 
 pub next_short-next-requires : goal.next_short-next-requires
 next_short-next-requires c = let inv = c.loop-i.invariant in omega (arith, inv.cursor, inv.a_lack_each)
@@ -70,7 +59,9 @@ bounds-short-next-in-loop-i c = omega (arith, short-place (goal.at.bounds-short-
 
 pub loop-i-preserved : goal.loop-i-preserved
 loop-i-preserved c =
-    hand_freed c.requires.known.0 c.loop-i.invariant (within (goal.at.loop-i-preserved c).After-seat-p) _ (seated (goal.at.loop-i-preserved c).After-seat-p) c.if-p-hosts.false _ c.next_short-next.ensures
+    let rises = c.requires.known.0 in
+    let on = within (goal.at.loop-i-preserved c).After-seat-p in
+    hand_freed rises c.loop-i.invariant on _ (seated_from rises c.loop-i.invariant on _ c.seat-p.ensures) c.if-p-hosts.false _ c.next_short-next.ensures
 
 pub returns : goal.returns
 returns c = hand_done c.loop-i.invariant (omega arith)

@@ -8,7 +8,8 @@ use Rattle.table.proofs.Replies.{sizes_sized, move_accepted, moved-to, layout_re
 use Rattle.table.proofs.layout.Goals as goal
 
 pub returns-then-a-ne0 : goal.returns-then-a-ne0
-returns-then-a-ne0 c = let m = layout_refused _ _ _ _ c.sizes_answer-a.ensures c.if-a-ne0.true in
+returns-then-a-ne0 c =
+    let m = layout_refused _ _ _ _ c.sizes_answer-a.ensures c.if-a-ne0.true in
     record {
       answer = sym m.0;
       owners = sym m.1;

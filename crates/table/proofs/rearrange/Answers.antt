@@ -10,7 +10,8 @@ use Rattle.table.proofs.rearrange.Goals as goal
 use Rattle.table.proofs.rearrange.Goals.{Else-a-ne0}
 
 pub returns-then-a-ne0 : goal.returns-then-a-ne0
-returns-then-a-ne0 c = let m = move_sizes _ _ _ _ c.sizes_answer-a.ensures c.if-a-ne0.true in
+returns-then-a-ne0 c =
+    let m = move_sizes _ _ _ _ c.sizes_answer-a.ensures c.if-a-ne0.true in
     record {
       reply = sym m.0;
       owners = sym m.1;

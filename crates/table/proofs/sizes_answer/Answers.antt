@@ -6,8 +6,7 @@ use lib.Dec.{eqb}
 use Rattle.base.specs.Rows.{lowest}
 use Rattle.base.specs.Sizes.{slots_fit}
 use Rattle.base.proofs.Tests.{and_both}
-use Rattle.std.proofs.Common.{◌∙◌}
-use Rattle.std.proofs.Common.{sym}
+use Rattle.std.proofs.Common.{◌∙◌, sym}
 use Rattle.table.proofs.sizes_answer.Goals as goal
 use Rattle.table.proofs.sizes_answer.Goals.{Else-length-slots, Else-not-slots_fit}
 

@@ -1,3 +1,4 @@
+-- `dump::put_roster` ends, and no place of a word wraps.
 use Rattle.std.proofs.Common.{◌-◌}
 use Rattle.calls.proofs.dump.put_roster.Given as goal
 

@@ -1,3 +1,4 @@
+-- `dump::run_end` ends and reads within the table; the run it finds is not empty.
 use Rattle.std.proofs.Common.{◌-◌, ◌<◌, ◌≤◌, length}
 use Rattle.calls.proofs.dump.run_end.Given as goal
 

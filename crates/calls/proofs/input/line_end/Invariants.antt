@@ -1,3 +1,4 @@
+-- `input::line_end` ends and reads within the input.
 use Rattle.std.proofs.Common.{◌-◌, ◌≤◌, length}
 use Rattle.calls.proofs.input.line_end.Given as goal
 

@@ -1,3 +1,4 @@
+-- `input::move_rest` ends, and no difference goes below 0.
 use Rattle.std.proofs.Common.{◌-◌, ◌≤◌}
 use Rattle.calls.proofs.input.move_rest.Given as goal
 

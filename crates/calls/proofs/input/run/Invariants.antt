@@ -1,3 +1,4 @@
+-- `input::run` ends: its turns are counted down.
 use Rattle.calls.proofs.input.run.Given as goal
 
 abbrev pub decreases-loop-turns : goal.decreases-loop-turns

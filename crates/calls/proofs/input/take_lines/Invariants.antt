@@ -1,3 +1,4 @@
+-- `input::take_lines` ends and reads within the input: each line is a step forward.
 use Rattle.std.proofs.Common.{◌-◌, ◌≤◌, length}
 use Rattle.calls.proofs.input.take_lines.Given as goal
 

@@ -1,3 +1,4 @@
+-- `list::keep_list` ends and reads within the list.
 use Rattle.std.proofs.Common.{◌-◌}
 use Rattle.calls.proofs.list.keep_list.Given as goal
 

@@ -1,3 +1,4 @@
+-- `list::list_of` ends and writes within the list.
 use Rattle.std.proofs.Common.{◌-◌}
 use Rattle.calls.proofs.list.list_of.Given as goal
 

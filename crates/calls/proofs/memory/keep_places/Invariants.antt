@@ -1,3 +1,4 @@
+-- `memory::keep_places` ends.
 use Rattle.std.proofs.Common.{◌-◌}
 use Rattle.calls.proofs.memory.keep_places.Given as goal
 

@@ -1,3 +1,4 @@
+-- `memory::read_places` ends.
 use Rattle.std.proofs.Common.{◌-◌}
 use Rattle.calls.proofs.memory.read_places.Given as goal
 

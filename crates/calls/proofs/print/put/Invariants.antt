@@ -1,3 +1,4 @@
+-- `print::put` ends and reads within the text.
 use Rattle.std.proofs.Common.{◌-◌, length}
 use Rattle.calls.proofs.print.put.Given as goal
 

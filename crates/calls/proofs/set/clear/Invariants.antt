@@ -1,3 +1,4 @@
+-- `set::clear` ends.
 use Rattle.std.proofs.Common.{◌-◌}
 use Rattle.calls.proofs.set.clear.Given as goal
 

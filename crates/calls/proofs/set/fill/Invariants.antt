@@ -1,3 +1,4 @@
+-- `set::fill` ends.
 use Rattle.std.proofs.Common.{◌-◌}
 use Rattle.calls.proofs.set.fill.Given as goal
 

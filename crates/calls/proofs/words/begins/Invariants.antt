@@ -1,3 +1,4 @@
+-- `words::begins` ends and reads within both texts.
 use Rattle.std.proofs.Common.{◌-◌, ◌≤◌, length}
 use Rattle.calls.proofs.words.begins.Given as goal
 

@@ -1,3 +1,4 @@
+-- `words::leading` ends and reads within the text.
 use Rattle.std.proofs.Common.{◌-◌, length}
 use Rattle.calls.proofs.words.leading.Given as goal
 

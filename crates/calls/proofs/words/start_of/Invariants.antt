@@ -1,3 +1,4 @@
+-- `words::start_of` ends, within the line.
 use Rattle.std.proofs.Common.{◌-◌, ◌≤◌, length}
 use Rattle.calls.proofs.words.start_of.Given as goal
 
