@@ -180,7 +180,3 @@ count_prefix (suc n) p down i l =
     low t = ⊎_elim (λ k. down i n k (omega arith) t) (λ e. ap p e ∙ t) (below_suc l)
 
 -- products -------------------------------------------------------------------
-
--- a product is below the product of its factors' bounds
-pub product_below : (m n : ℕ) {a b : ℕ} → a ≤ m → b < n → 0 < m → a * b < m * n
-product_below m n {a} {b} ha hb some = lt_of_le_of_lt (mul-le-mul_right b ha) (mul-lt-mul_of_pos_left hb some)

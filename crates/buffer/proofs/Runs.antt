@@ -9,25 +9,24 @@ use native.Mathlib.Nat.{sub-zero, zero-add}
 use native.Mathlib.Omega.{arith}
 use borrow.Author.Tests.{le-leb, not-true}
 use lib.ListN.{length, drop, length-append}
+use Rattle.std.specs.Prelude.{Some, None}
 use Rattle.base.proofs.Tests.{by_test, and_left, and_right, and_both}
 use Rattle.stream.specs.declared.State.{State}
 use Rattle.stream.specs.declared.Said.{Said}
 use Rattle.stream.specs.Steps.{next_number}
-use Rattle.stream.specs.Steps as steps
 use Rattle.stream.specs.Text.{text_of}
 use Rattle.stream.specs.Meaning.{at_end, meaning, printed}
 use Rattle.stream.proofs.Meanings.{stopped_silent}
 use Rattle.feed.specs.declared.Fed.{Fed}
-use Rattle.feed.specs.Feed.{has_line, fed, owners_fed}
+use Rattle.feed.specs.Feed.{has_line, fed, fed_next, owners_fed}
 use Rattle.feed.specs.declared.Passing.{Passing}
 use Rattle.feed.specs.Passing.{passes_by}
-use Rattle.feed.proofs.Passes.{passed-there, passed-fed, passed-owners}
-use Rattle.feed.proofs.Lines.{none_past, fed-none, owners-none, next_goes, nothing_left, piece_left, end_prints}
+use Rattle.feed.proofs.Passes.{passed_is_fed}
+use Rattle.feed.proofs.Lines.{none_past, owners-none, next_goes, nothing_left, piece_left, end_prints}
 use Rattle.printing.specs.Wrote.{wrote, room_for, said_at, place_after}
 use Rattle.printing.proofs.Texts.{room_is, length-text, wrote_nothing, length-wrote, wrote-behind}
 use Rattle.buffer.specs.declared.Ran.{Ran}
 use Rattle.buffer.specs.Run.{Turn, may_go_on, goes_on, one_more, up_to, begun, run, ran}
-use Rattle.buffer.specs.Passed.{with_passed}
 use Rattle.buffer.specs.Reads.{Served, served, unserved, after_reads, all_read}
 use Rattle.buffer.specs.Laws.{RunGoes, RunEnds, RunWithin, AnyReads, AllPrinted, RanFixed}
 
@@ -213,7 +212,7 @@ module _ {owners₀ input out₀ : List ℕ} {s₀ : State} {owners out : List �
   abbrev now : Turn
   now = record { state = s; owners = owners; text = kept.text; next = next }
 
-  pub kept_size : length out ≡ length out₀
+  kept_size : length out ≡ length out₀
   kept_size = ap length kept.put ∙ length-wrote out₀ 0 kept.text (omega (arith, kept.fits))
 
   -- what the call promises of the values reached
@@ -227,22 +226,19 @@ module _ {owners₀ input out₀ : List ℕ} {s₀ : State} {owners out : List �
       let end : now ≡ run s₀ owners₀ input (length out₀) = sym (no_more input (length out₀) (length input - next) now g) ∙ kept.whole in
       (ap (λ p. record { state = s; next = next; printed = p }) kept.place ∙ ap ran end, ap (λ t. t.owners) end, kept.put ∙ ap (λ t. wrote out₀ 0 t.text) end)
 
-  -- a place that does not move: no line begins there
-  stays : (f : Fed) → f ≡ fed s owners input next → f.next ≡ next → has_line input next ≡ false
-  stays f e same =
+  -- a line that is fed is there, and the place behind it is further on, within the buffer
+  line_there : (f : Fed) → fed_next s owners input next ≡ Some f → (has_line input next ≡ true) × (f ≡ fed s owners input next)
+  line_there f e =
       by_test (has_line input next)
-      (λ t. absurd (let on = (nothing_left s owners input next t).0 in let here = ap (λ x. x.next) e in omega arith))
-      (λ n. n)
+      (λ t. (t, let one = rw t at e in cc))
+      (λ n. absurd (let none = rw n at e in cc))
 
-  moves : (f : Fed) → f ≡ fed s owners input next → (f.next ≡ next → ⊥) → has_line input next ≡ true
-  moves f e other =
-      by_test (has_line input next)
-      (λ t. t)
-      (λ n. absurd (other (ap (λ x. x.next) (e ∙ fed-none s owners input next n))))
-
-  -- a place that moves is behind its line, within the buffer
-  pub kept_less : (f : Fed) → f ≡ fed s owners input next → (f.next ≡ next → ⊥) → length input - f.next < length input - next
-  kept_less f e other = let on = nothing_left s owners input next (moves f e other) in let here = ap (λ x. x.next) e in omega arith
+  pub kept_less : (f : Fed) → fed_next s owners input next ≡ Some f → length input - f.next < length input - next
+  kept_less f e =
+      let there = line_there f e in
+      let on = nothing_left s owners input next there.0 in
+      let here = ap (λ x. x.next) there.1 in
+      omega arith
 
   same_room : may_go_on s.stopped (length out) printed ≡ may_go_on s.stopped (length out₀) (length kept.text)
   same_room = ap (λ n. may_go_on s.stopped n printed) kept_size ∙ ap (λ p. may_go_on s.stopped (length out₀) p) kept.place
@@ -251,10 +247,9 @@ module _ {owners₀ input out₀ : List ℕ} {s₀ : State} {owners out : List �
   pub kept_full : may_go_on s.stopped (length out) printed ≡ false → Promised record { state = s; next = next; printed = printed } owners out
   kept_full m = done (ap (λ b. b && has_line input next) (sym same_room ∙ m))
 
-  pub kept_stays : (f : Fed) (owners' : List ℕ) → f ≡ fed s owners input next → f.next ≡ next → owners' ≡ owners_fed s owners input next →
-      Promised record { state = s; next = next; printed = printed } owners' out
-  kept_stays f owners' e same o =
-      let none = stays f e same in
+  pub kept_ends : (owners' : List ℕ) → fed_next s owners input next ≡ None → owners' ≡ owners_fed s owners input next → Promised record { state = s; next = next; printed = printed } owners' out
+  kept_ends owners' e o =
+      let none : has_line input next ≡ false = by_test (has_line input next) (λ t. absurd (let one = rw t at e in cc)) (λ n. n) in
       let end = done (ap (λ b. may_go_on s.stopped (length out₀) (length kept.text) && b) none ∙ and-false (may_go_on s.stopped (length out₀) (length kept.text))) in
       (end.0, o ∙ owners-none s owners input next none ∙ end.1, end.2)
 
@@ -278,31 +273,26 @@ module _ {owners₀ input out₀ : List ℕ} {s₀ : State} {owners out : List �
         whole = enough input (length out₀) (length input - (fed s owners input next).next) (length input - next - 1) (one_more input now) (omega arith) (omega arith) ∙ sym line ∙ ap (λ k. up_to k input (length out₀) now) more ∙ kept.whole;
       }
 
-  pub kept_next : (f : Fed) (owners' out' : List ℕ) (printed' : ℕ) → may_go_on s.stopped (length out) printed ≡ true → f ≡ fed s owners input next → (f.next ≡ next → ⊥)
+  pub kept_next : (f : Fed) (owners' out' : List ℕ) (printed' : ℕ) → may_go_on s.stopped (length out) printed ≡ true → fed_next s owners input next ≡ Some f
       → owners' ≡ owners_fed s owners input next → length owners' ≡ length owners₀ → printed' ≡ place_after f.said (length out) printed → out' ≡ said_at f.said out printed
       → Kept owners₀ input out₀ s₀ owners' out' f.state f.next printed'
-  kept_next f owners' out' printed' m e other o lent p q = rw (p, q, e, o) (kept_line m (moves f e other) (ap length (sym o) ∙ lent))
+  kept_next f owners' out' printed' m e o lent p q =
+      let there = line_there f e in
+      rw (p, q, there.1, o) (kept_line m there.0 (ap length (sym o) ∙ lent))
 
-  -- a line taken with no roster at hand is a line more
-  going : may_go_on s.stopped (length out) printed ≡ true → s.stopped ≡ false
-  going m = not-true s.stopped (and_left (not s.stopped) (room_for (length out) printed) m)
+  -- a line passed, with no roster at hand, is a line fed
+  module _ (p : Passing) (m : may_go_on s.stopped (length out) printed ≡ true) (e : passes_by s.due (next_number s.lines) s.slots owners input next ≡ Some p) where
+    going : s.stopped ≡ false
+    going = not-true s.stopped (and_left (not s.stopped) (room_for (length out) printed) m)
 
-  pub passed_less : (p : Passing) → p ≡ passes_by s.due (next_number s.lines) s.slots owners input next → may_go_on s.stopped (length out) printed ≡ true → p.taken ≡ true
-      → length input - p.next < length input - next
-  passed_less p e m t =
-      let taken = sym (ap (λ x. x.taken) e) ∙ t in
-      let on = nothing_left s owners input next (passed-there s owners input next taken) in
-      let here = ap (λ x. x.next) e ∙ ap (λ f. f.next) (passed-fed s owners input next (going m) taken) in
-      omega arith
+    as_fed : (fed_next s owners input next ≡ Some record { state = record s { due = p.due; lines = next_number s.lines }; said = p.said; next = p.next }) × (owners_fed s owners input next ≡ owners)
+    as_fed =
+        let line = passed_is_fed s owners input next p e going in
+        (line.0 ∙ ap (λ b. Some record { state = record { due = p.due; slots = s.slots; roster = s.roster; lines = next_number s.lines; stopped = b }; said = p.said; next = p.next }) (sym going), line.1)
 
-  pub kept_passed : (p : Passing) (out' : List ℕ) (printed' : ℕ) → p ≡ passes_by s.due (next_number s.lines) s.slots owners input next → may_go_on s.stopped (length out) printed ≡ true → p.taken ≡ true
-      → printed' ≡ place_after p.said (length out) printed → out' ≡ said_at p.said out printed
-      → Kept owners₀ input out₀ s₀ owners out' (with_passed s p.due (next_number s.lines)) p.next printed'
-  kept_passed p out' printed' e m t pl pr =
-      let taken = sym (ap (λ x. x.taken) e) ∙ t in
-      let on = going m in
-      let f : Fed = record { state = steps.goes_on s p.due; said = p.said; next = p.next } in
-      let is : f ≡ fed s owners input next = ap (λ x. record { state = steps.goes_on s x.due; said = x.said; next = x.next }) e ∙ passed-fed s owners input next on taken in
-      let less = passed_less p e m t in
-      let next-kept = kept_next f owners out' printed' m is (λ same. absurd (let here : p.next ≡ next = same in omega arith)) (passed-owners s owners input next on taken) kept.lent pl pr in
-      rw on next-kept
+    pub passed_less : length input - p.next < length input - next
+    passed_less = kept_less _ as_fed.0
+
+    pub kept_passed : (out' : List ℕ) (printed' : ℕ) → printed' ≡ place_after p.said (length out) printed → out' ≡ said_at p.said out printed
+        → Kept owners₀ input out₀ s₀ owners out' (record s { due = p.due; lines = next_number s.lines }) p.next printed'
+    kept_passed out' printed' pl pr = kept_next _ owners out' printed' m as_fed.0 (sym as_fed.1) kept.lent pl pr

@@ -1,4 +1,3 @@
 pub mod Run
-pub mod Passed
 pub mod Reads
 pub mod Laws

@@ -1,148 +1,67 @@
-// The input, read in pieces through a lent buffer and taken line by line.
-ghost use Rattle.std.specs.Prelude.{◌≤◌, length};
+// The input, read in pieces through a buffer of fixed size and taken line by line.
 
-use crate::{print, reply};
-use std::io::Read;
+ghost use Rattle.std.specs.Prelude.{◌<◌, ◌≤◌};
+ghost use Rattle.calls.specs.declared.input.TheConstants.{SIZE};
 
-// Where a program stands: the place in the output, how much of the buffer is kept, and whether the input has ended.
-#[derive(Clone, Copy)]
-pub(crate) struct Stand {
-    at: usize,
+use crate::exchange::Exchange;
+use std::io::{Read, Write};
+
+// As many bytes as a line may have, with its end.
+const SIZE: usize = 65_536;
+
+// Where the lines come from, the buffer, and how much of it is the beginning of a line. No `BufReader`: it needs an allocator, on which this program does not rest.
+#[derive(Drop)]
+pub(crate) struct Input<R: Read + Drop> {
+    from: R,
+    buffer: [u8; SIZE],
     kept: usize,
-    ended: bool,
+    ghost room: { kept < SIZE },
 }
 
-// Where the line that begins at a place ends: at its byte 10, or behind the last byte.
-fn line_end(input: &[u8], from: usize) -> usize
-    requires { from ≤ length input.now }
-    ensures { (from ≤ result) × (result ≤ length input.now) }
-{
-    let mut i = from;
-    while i < input.len() {
-        if input[i] == b'\n' {
-            return i;
-        }
-        i += 1;
-    }
-    i
-}
-
-// Takes the whole lines of a piece of input, and answers where the rest begins.
-fn take_lines(
-    rt: &impl Print,
-    words: &mut [u32],
-    table: &mut [u16],
-    out: &mut [u8],
-    at: usize,
-    input: &[u8],
-) -> Stand {
-    let mut next = at;
-    let mut from = 0;
-    while from < input.len() {
-        let end = line_end(input, from);
-        if input.len() <= end {
-            return Stand {
-                at: next,
-                kept: from,
-                ended: false,
-            };
-        }
-        next = reply::take_line(rt, words, table, out, next, &input[from..end]);
-        from = end + 1;
-    }
-    Stand {
-        at: next,
-        kept: from,
-        ended: false,
-    }
-}
-
-// Moves the rest of the buffer to its front, and answers how long it is. A rest that fills the buffer is no line, and is let go.
-fn move_rest(buffer: &mut [u8], from: usize, end: usize) -> usize {
-    if end < from {
-        return 0;
-    }
-    if buffer.len() <= end - from {
-        return 0;
-    }
-    let mut i = from;
-    while i < end {
-        move_byte(buffer, i, i - from);
-        i += 1;
-    }
-    end - from
-}
-
-// Copies a byte to another place.
-fn move_byte(buffer: &mut [u8], from: usize, to: usize) {
-    if buffer.len() <= from {
-        return;
-    }
-    if buffer.len() <= to {
-        return;
-    }
-    buffer[to] = buffer[from];
-}
-
-// Reads once behind what is kept, and answers how much of the buffer is full.
-fn read_more(input: &mut impl Read, buffer: &mut [u8], kept: usize) -> usize
-    ensures { result ≤ length buffer.new }
-{
-    if buffer.len() <= kept {
-        return 0;
-    }
-    let room = &mut buffer[kept..];
-    kept + input.read(room).unwrap_or(0)
-}
-
-// One read, and the lines that it completes.
-fn turn(
-    rt: &impl Print,
-    input: &mut impl Read,
-    words: &mut [u32],
-    table: &mut [u16],
-    out: &mut [u8],
-    buffer: &mut [u8],
-    s: Stand,
-) -> Stand {
-    let n = read_more(input, buffer, s.kept);
-    if n <= s.kept {
-        print::flush(rt, out, s.at);
-        return Stand {
-            at: 0,
+impl<R: Read + Drop> Input<R> {
+    // Before the first read.
+    pub(crate) fn new(from: R) -> Self {
+        Input {
+            from,
+            buffer: [0; SIZE],
             kept: 0,
-            ended: true,
-        };
-    }
-    let t = take_lines(rt, words, table, out, s.at, &buffer[0..n]);
-    let kept = move_rest(buffer, t.kept, n);
-    Stand {
-        at: t.at,
-        kept,
-        ended: false,
-    }
-}
-
-// Takes the whole input. A proved loop has to end: it counts its turns down from a number that no run uses up.
-pub(crate) fn run(
-    rt: &impl Print,
-    input: &mut impl Read,
-    words: &mut [u32],
-    table: &mut [u16],
-    out: &mut [u8],
-    buffer: &mut [u8],
-) {
-    let mut s = Stand {
-        at: 0,
-        kept: 0,
-        ended: false,
-    };
-    let mut turns = u64::MAX;
-    while turns > 0 {
-        s = turn(rt, input, words, table, out, buffer, s);
-        if s.ended {
-            return;
         }
-        turns -= 1;
+    }
+
+    // Reads once and takes the lines that this ends; answers whether anything was read.
+    fn take_piece<W: Write + Drop>(&mut self, exchange: &mut Exchange<W>) -> bool {
+        let got = self.from.read(&mut self.buffer[self.kept..]).unwrap_or(0);
+        let filled = self.kept + got;
+        let held = &self.buffer[..filled];
+        let whole = held
+            .iter()
+            .rposition(|byte| *byte == b'\n')
+            .map_or(0, |end| end + 1);
+        // behind the last end of a line stands an empty one, which says nothing
+        for line in held[..whole].split(|byte| *byte == b'\n') {
+            exchange.take_line(line);
+        }
+        self.keep(whole, filled);
+        got > 0
+    }
+
+    // Moves what is left to the front of the buffer. What fills the buffer is no line, and is let go.
+    fn keep(&mut self, whole: usize, filled: usize)
+        requires { (whole ≤ filled) × (filled ≤ SIZE) }
+    {
+        self.kept = filled - whole;
+        if self.kept == SIZE {
+            self.kept = 0;
+        }
+        self.buffer.copy_within(whole..filled, 0);
+    }
+
+    // Takes the whole input. A proved loop has to end: it counts up to a number that no run reaches.
+    pub(crate) fn take_all<W: Write + Drop>(&mut self, exchange: &mut Exchange<W>) {
+        for _ in 0..u64::MAX {
+            if !self.take_piece(exchange) {
+                break;
+            }
+        }
     }
 }

@@ -2,41 +2,20 @@
 // Another program can read the same lines: then replies and lent memory are compared byte by byte.
 #![tactic(auto)]
 
-mod dump;
+mod answer;
+mod exchange;
 mod input;
-mod list;
 mod memory;
-mod print;
-mod reply;
-mod set;
+mod output;
+mod show;
 mod words;
 
-// No slots owned. A function of its own, so that no proof has to carry the zeros.
-fn unowned() -> [u16; 16_500] {
-    [0u16; 16_500]
-}
-
-// The memory's words at the start, for the same reason.
-fn unset() -> [u32; 1_415] {
-    [0u32; 1_415]
-}
-
-// As many zeros as a read or a write may fill, for the same reason.
-fn large_buffer() -> [u8; 65_536] {
-    [0u8; 65_536]
-}
+use exchange::Exchange;
+use input::Input;
+use output::Output;
 
 fn main(rt: HostRuntime) {
-    let mut words = unset();
-    let mut table = unowned();
-    let mut out = large_buffer();
-    let mut buffer = large_buffer();
-    input::run(
-        &rt,
-        &mut rt.stdin(),
-        &mut words,
-        &mut table,
-        &mut out,
-        &mut buffer,
-    );
+    let mut exchange = Exchange::new(Output::new(rt.stdout()));
+    Input::new(rt.stdin()).take_all(&mut exchange);
+    exchange.finish();
 }

@@ -1,128 +1,103 @@
-// The memory that the calls work on: one run of words for the roster, the report list and the lengths in use, beside the table.
-ghost use Rattle.std.specs.Prelude.{◌≤◌, length};
+// The memory that the calls work on, and the lines that set a part of it.
 
+use crate::words::Words;
+use report::HostRecord;
 use roster::Roster;
 
-// Where each part begins behind the host numbers: rates, then numbers, rates and quotas of the report list, and three single words.
-pub(crate) const RATES: usize = 256;
+// As many slots and records as there is memory for, somewhat more than any call takes.
+const SLOTS: usize = 16_500;
 
-pub(crate) const LIST_NUMBERS: usize = 512;
+const RECORDS: usize = 300;
 
-pub(crate) const LIST_RATES: usize = 812;
-
-pub(crate) const LIST_QUOTAS: usize = 1_112;
-
-pub(crate) const COUNT: usize = 1_412;
-
-pub(crate) const LENGTH: usize = 1_413;
-
-pub(crate) const RECORDS: usize = 1_414;
-
-// A word, 0 past the end.
-pub(crate) fn word(words: &[u32], i: usize) -> u32 {
-    if i < words.len() {
-        return words[i];
-    }
-    0
+// The roster, the table and how much of it is in use, and the report list with how many records of it are.
+// Arrays with their lengths beside them: a line may set a length above the memory, and `fill` and `stale` reach past it.
+#[derive(Drop)]
+pub(crate) struct Memory {
+    pub(crate) roster: Roster,
+    table: [u16; SLOTS],
+    length: usize,
+    list: [HostRecord; RECORDS],
+    records: usize,
 }
 
-// Sets a word, where there is one.
-pub(crate) fn keep(words: &mut [u32], i: usize, value: u32) {
-    if i < words.len() {
-        words[i] = value;
+impl Memory {
+    // All of it zero.
+    pub(crate) fn new() -> Self {
+        let none = HostRecord {
+            number: 0,
+            rate: 0,
+            quota: 0,
+        };
+        Memory {
+            roster: roster::empty(),
+            table: [0; SLOTS],
+            length: 0,
+            list: [none; RECORDS],
+            records: 0,
+        }
     }
-}
 
-// A host number, 0 past the end.
-pub(crate) fn owner(owners: &[u16], i: usize) -> u16 {
-    if i < owners.len() {
-        return owners[i];
+    // The part of the table in use.
+    pub(crate) fn owners(&self) -> &[u16] {
+        &self.table[..self.length.min(SLOTS)]
     }
-    0
-}
 
-// Sets a host number, where there is one.
-pub(crate) fn keep_owner(owners: &mut [u16], i: usize, value: u16) {
-    if i < owners.len() {
-        owners[i] = value;
+    // The same, to be changed.
+    pub(crate) fn owners_mut(&mut self) -> &mut [u16] {
+        &mut self.table[..self.length.min(SLOTS)]
     }
-}
 
-// A number as a host number.
-pub(crate) fn narrow(value: u32) -> u16 {
-    if 65_535 < value {
-        return 0;
+    // The part of the report list in use.
+    pub(crate) fn records(&self) -> &[HostRecord] {
+        &self.list[..self.records.min(RECORDS)]
     }
-    value as u16
-}
 
-// A count as a word.
-fn word_of(count: usize) -> u32 {
-    if 4_294_967_295 < count {
-        return 0;
+    // The same, to be filled.
+    pub(crate) fn records_mut(&mut self) -> &mut [HostRecord] {
+        &mut self.list[..self.records.min(RECORDS)]
     }
-    count as u32
-}
 
-// How much of the table is in use.
-pub(crate) fn in_use(table: &[u16], words: &[u32]) -> usize
-    ensures { result ≤ length table.now }
-{
-    let n = word(words, LENGTH) as usize;
-    if table.len() < n {
-        return table.len();
+    // No hosts.
+    pub(crate) fn clear(&mut self) {
+        self.roster = roster::empty();
     }
-    n
-}
 
-// How many records are in use.
-pub(crate) fn records_used(words: &[u32]) -> usize
-    ensures { result ≤ 300 }
-{
-    let n = word(words, RECORDS) as usize;
-    if 300 < n {
-        return 300;
+    // Does what a line sets; nothing where its word is unknown.
+    pub(crate) fn set(&mut self, word: &[u8], words: &mut Words<'_>) {
+        match word {
+            b"host" => self.set_host(words.place(), words.host(), words.number()),
+            b"count" => self.roster.count = words.place(),
+            b"length" => self.length = words.place(),
+            b"fill" => self.fill(words.place(), words.place(), words.host()),
+            b"records" => self.records = words.place(),
+            b"stale" => self.set_record(words),
+            _ => {}
+        }
     }
-    n
-}
 
-// Copies the roster's places out of the words.
-fn read_places(words: &[u32], hosts: &mut [u16], rates: &mut [u32]) {
-    let mut i = 0;
-    while i < 256 {
-        keep_owner(hosts, i, narrow(word(words, i)));
-        keep(rates, i, word(words, RATES + i));
-        i += 1;
+    // `host P N R`.
+    fn set_host(&mut self, place: usize, host: u16, rate: u32) {
+        if place < self.roster.hosts.len() {
+            self.roster.hosts[place] = host;
+            self.roster.rates[place] = rate;
+        }
     }
-}
 
-// Copies the roster's places into the words.
-fn keep_places(words: &mut [u32], hosts: &[u16], rates: &[u32]) {
-    let mut i = 0;
-    while i < 256 {
-        keep(words, i, owner(hosts, i) as u32);
-        keep(words, RATES + i, word(rates, i));
-        i += 1;
+    // `fill A B O`.
+    fn fill(&mut self, from: usize, to: usize, owner: u16) {
+        if let Some(part) = self.table.get_mut(from..to) {
+            part.fill(owner);
+        }
     }
-}
 
-// The roster by value.
-pub(crate) fn roster_of(words: &[u32]) -> Roster {
-    let mut hosts = [0u16; 256];
-    let mut rates = [0u32; 256];
-    read_places(words, &mut hosts, &mut rates);
-    let count = word(words, COUNT) as usize;
-    Roster {
-        hosts,
-        rates,
-        count,
+    // `stale P N R Q`.
+    fn set_record(&mut self, words: &mut Words<'_>) {
+        if let Some(record) = self.list.get_mut(words.place()) {
+            *record = HostRecord {
+                number: words.host(),
+                rate: words.number(),
+                quota: words.number(),
+            };
+        }
     }
-}
-
-// Keeps a roster that was handed back.
-pub(crate) fn keep_roster(words: &mut [u32], r: Roster) {
-    let hosts = r.hosts;
-    let rates = r.rates;
-    keep_places(words, &hosts, &rates);
-    keep(words, COUNT, word_of(r.count));
 }

@@ -1,94 +1,87 @@
-// The words and numbers of a line, separated by single spaces.
-ghost use Rattle.std.specs.Prelude.{◌≤◌, length};
+// The words and numbers of a line, which single spaces part.
 
-// Whether a text begins with a word.
-pub(crate) fn begins(text: &[u8], word: &[u8]) -> bool {
-    if text.len() < word.len() {
-        return false;
+use events::Event;
+
+// What is left of a line.
+#[derive(Clone, Copy)]
+pub(crate) struct Words<'a> {
+    rest: &'a [u8],
+}
+
+// A text's first word and what stands behind its space; nothing where there is no space.
+pub(crate) fn split_word(text: &[u8]) -> Option<(&[u8], &[u8])> {
+    let end = text.iter().position(|byte| *byte == b' ')?;
+    Some((&text[..end], &text[end + 1..]))
+}
+
+// A number with one digit more, 0 where it has grown too long.
+fn with_digit(value: u64, digit: u32) -> u64 {
+    if value > 1_000_000_000_000 {
+        return 0;
     }
-    let mut i = 0;
-    while i < word.len() {
-        if text[i] != word[i] {
-            return false;
+    value * 10 + u64::from(digit)
+}
+
+impl<'a> Words<'a> {
+    // A text from its beginning.
+    pub(crate) fn new(rest: &'a [u8]) -> Self {
+        Words { rest }
+    }
+
+    // The next word, empty at the end of the line.
+    fn word(&mut self) -> &'a [u8] {
+        let (word, rest) = split_word(self.rest).unwrap_or((self.rest, b""));
+        self.rest = rest;
+        word
+    }
+
+    // The number that the next word begins with, 0 where it begins with none: by hand, since `parse` takes no number with more behind it.
+    pub(crate) fn long_number(&mut self) -> u64 {
+        self.word()
+            .iter()
+            .map_while(|byte| char::from(*byte).to_digit(10))
+            .fold(0, with_digit)
+    }
+
+    // The same, 0 where it does not fit.
+    pub(crate) fn number(&mut self) -> u32 {
+        u32::try_from(self.long_number()).unwrap_or(0)
+    }
+
+    // The same as a host number.
+    pub(crate) fn host(&mut self) -> u16 {
+        u16::try_from(self.number()).unwrap_or(0)
+    }
+
+    // The same as a place.
+    pub(crate) fn place(&mut self) -> usize {
+        self.number() as usize
+    }
+
+    // The event of a name, `H R` behind it, or `H` alone behind `drop`.
+    pub(crate) fn event(&mut self, name: &[u8]) -> Event {
+        let host = self.number();
+        match name {
+            b"drop" => Event::Drop { host },
+            b"add" => Event::Add {
+                host,
+                rate: self.number(),
+            },
+            _ => Event::Rate {
+                host,
+                rate: self.number(),
+            },
         }
-        i += 1;
     }
-    true
-}
 
-// How many spaces are left to pass after a byte.
-fn spaces_left(left: usize, byte: u8) -> usize {
-    if byte != b' ' {
-        return left;
+    // `add H R`, `drop H`, `rate H R`.
+    pub(crate) fn named_event(&mut self) -> Event {
+        let name = self.word();
+        self.event(name)
     }
-    if left == 0 {
-        return 0;
+
+    // All that is left.
+    pub(crate) fn rest(self) -> &'a [u8] {
+        self.rest
     }
-    left - 1
-}
-
-// Where the text behind so many spaces begins, or the line's end.
-fn start_of(line: &[u8], spaces: usize) -> usize
-    ensures { result ≤ length line.now }
-{
-    let mut left = spaces;
-    let mut i = 0;
-    while i < line.len() {
-        if left == 0 {
-            return i;
-        }
-        left = spaces_left(left, line[i]);
-        i += 1;
-    }
-    i
-}
-
-// The text behind so many spaces.
-pub(crate) fn rest_of(line: &[u8], spaces: usize) -> &[u8] {
-    let from = start_of(line, spaces);
-    &line[from..]
-}
-
-// Whether a byte is a digit.
-fn is_digit(byte: u8) -> bool {
-    b'0' <= byte && byte <= b'9'
-}
-
-// A number with one digit more, 0 where it grows too long.
-fn with_digit(value: u64, digit: u8) -> u64 {
-    if 1_000_000_000_000 < value {
-        return 0;
-    }
-    if digit < b'0' {
-        return 0;
-    }
-    value * 10 + (digit - b'0') as u64
-}
-
-// The number at the beginning of a text, 0 where there is none.
-fn leading(text: &[u8]) -> u64 {
-    let mut value = 0;
-    let mut i = 0;
-    while i < text.len() {
-        if !is_digit(text[i]) {
-            return value;
-        }
-        value = with_digit(value, text[i]);
-        i += 1;
-    }
-    value
-}
-
-// The number behind so many spaces.
-pub(crate) fn long_number(line: &[u8], spaces: usize) -> u64 {
-    leading(rest_of(line, spaces))
-}
-
-// The number behind so many spaces, 0 where it does not fit.
-pub(crate) fn number(line: &[u8], spaces: usize) -> u32 {
-    let value = long_number(line, spaces);
-    if 4_294_967_295 < value {
-        return 0;
-    }
-    value as u32
 }

@@ -31,11 +31,6 @@ use Rattle.roster.specs.Changes.{may_drop}
 pub host_narrow : (host : ℕ) → host_fits host ≡ true → Fits w16 host
 host_narrow host t = let l : host ≤ 65535 = leb-true host 65535 (and_right (leb 1 host) _ t) in omega arith
 
--- on a valid roster a host may be dropped exactly where it is on it
-pub on_roster : (r : Roster) (host : ℕ) (b : Bool) → valid r ≡ true → b ≡ may_drop r host → is_on (hosts_of r) host ≡ b
-unfolding may_drop
-on_roster r host b v e = sym (e ∙ rw v)
-
 -- the quotas that the function gives, at a host's place
 pub given-quota : (r : Roster) (S host : ℕ) → valid r ≡ true → slots_fit S ≡ true → (l : List ℕ) → l ≡ quotas_given (rates_of r) S → (p : ℕ) → p ≡ place (hosts_of r) host → is_on (hosts_of r) host ≡ true →
     (at l p ≡ host_quota r S host) × (at l p ≤ 16384)

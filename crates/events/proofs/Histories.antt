@@ -43,7 +43,7 @@ use Rattle.events.specs.Events.{named, changed, change_rows, event_rows, bad_hos
 use Rattle.events.specs.Forecasts.{host_quota, forecast_answer}
 use Rattle.events.specs.Demand3.{Reached, begin, next, slots_at, StaysRight, SlotsSum, NoSmallerRatio, WithinBound, OnlyTheNamed, CountIsTrue, NoFewer, RefusedKeeps, rate_again, SameRateStays, ForecastIsTrue, ReplyFixed, ForecastFixed}
 use Rattle.events.proofs.OneHost.{only_added, only_dropped, only_rerated, add_allowed, drop_allowed, rate_allowed}
-use Rattle.events.proofs.Outcomes.{changed-sized, event_decides, accepted_check, accepted_event, named-fits, row_passed, kept_roster, kept_table, none-moved, new_roster, new_table, new_moved, forecast_refused, forecast_made}
+use Rattle.events.proofs.Outcomes.{told_fixes, foretold_fixes, changed-sized, event_decides, accepted_check, accepted_event, named-fits, row_passed, kept_roster, kept_table, none-moved, new_roster, new_table, new_moved, forecast_refused, forecast_made}
 
 -- every reached state is right ------------------------------------------------------------
 
@@ -208,10 +208,10 @@ forecast_is_true S fits r slots h e asked good =
 -- one reply ---------------------------------------------------------------------------------------
 
 pub reply_fixed : ReplyFixed
-reply_fixed S r slots e x y t u p q v w = (p ∙ sym q, v ∙ sym w)
+reply_fixed S r slots e x y t u p q v w = (told_fixes x y (p ∙ sym q), v ∙ sym w)
 
 pub forecast_fixed : ForecastFixed
-forecast_fixed S r e asked x y p q = p ∙ sym q
+forecast_fixed S r e asked x y p q = foretold_fixes x y (p ∙ sym q)
 
 -- only the host named -----------------------------------------------------------------------------
 

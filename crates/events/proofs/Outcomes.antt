@@ -1,6 +1,6 @@
 -- What an event answers and leaves, case by case.
 -- Assumes nothing.
-use mathlib.Core.Path.{◌≡◌, refl, sym, ◌∙◌}
+use mathlib.Core.Path.{◌≡◌, refl, sym, ap, ap₂, ◌∙◌}
 use mathlib.Core.Bool.{Bool, true, false, ◌||◌, not}
 use mathlib.Core.Logic.{⊎_elim}
 use mathlib.Core.List.{List, ◌∷◌, ◌++◌}
@@ -19,17 +19,25 @@ use Rattle.roster.specs.Roster.{valid}
 use Rattle.roster.proofs.Changes.{added-valid, dropped-valid, rerated-valid}
 use Rattle.mover.specs.Mover.{changes}
 use Rattle.table.specs.Table.{rearranged}
-use Rattle.table.specs.Answers.{size_rows, table_rows, check_answer}
+use Rattle.std.specs.Prelude.{Result, Ok, Err, IsOk}
+use borrow.Author.Rules.{rules}
+use Rattle.base.specs.declared.Refusal.{Refusal}
+use Rattle.base.proofs.Refusals.{number_not_zero, same_reason, told_once}
+use Rattle.table.specs.Answers.{size_rows, table_rows, check_answer, move_answer, move_reply}
+use Rattle.table.specs.Told.{told_move}
 use Rattle.table.specs.Laws.{Sized}
 use Rattle.table.proofs.Moves.{freed_is_lacked}
-use Rattle.table.proofs.Replies.{check_zero}
+use Rattle.table.proofs.Replies.{check_zero, sized_sizes}
 use Rattle.events.specs.declared.Event.{Event}
 use Rattle.events.specs.declared.Event.TheVariants.{Add, Drop, Rate}
-use Rattle.events.specs.declared.Reply.{Reply}
-use Rattle.events.specs.declared.Foreseen.{Foreseen}
+use Rattle.events.specs.Events.{Reply}
+use Rattle.events.specs.Forecasts.{Foreseen}
 use Rattle.events.specs.Forecasts.{host_quota, forecast_answer, change_of, forecast_of}
 use Rattle.events.specs.Events.{named, bad_host, event_rows, change_rows, changed, answer_of, roster_after, table_after, moved_by, reply_of}
 use Rattle.events.specs.Laws.{ChecksSuffice}
+use Rattle.events.specs.declared.Change.{Change}
+use Rattle.events.specs.declared.Refused.{Refused}
+use Rattle.events.specs.Told.{told, foretold}
 use Rattle.events.proofs.Rows.{checks_rise}
 
 -- a valid roster stays so, whatever the event
@@ -118,6 +126,23 @@ module _ (r : Roster) (S : ℕ) (e : Event) (slots : List ℕ) where
 
   pub accepted_reply : answer_of r S e slots ≡ 0 → (s : Roster) (n : ℕ) → s ≡ changed r e → n ≡ changes slots (rearranged (changed r e) S slots) → reply_of r S e slots ≡ says 0 s n
   accepted_reply z s n p q = reply_is 0 s n z (new_roster z ∙ sym p) (new_moved z ∙ sym q)
+
+-- so the move of a roster that is as well sized is not refused
+pub move_is_ok : (r : Roster) (S : ℕ) (slots : List ℕ) → Sized r S slots → (s : Roster) → s ≡ r → (x : Result ℕ Refusal) → told_move x ≡ move_reply s S slots → IsOk x
+unfolding move_answer
+move_is_ok r S slots z s e (Ok count) told = search rules
+move_is_ok r S slots z s e (Err reason) told =
+    absurd (number_not_zero reason (ap (λ m. m.answer) told ∙ ap (λ k. lowest (size_rows k S (length slots))) e ∙ sized_sizes r S slots z))
+
+-- what a call gives is fixed by what it tells
+pub told_fixes : (x y : Result Change Refused) → told x ≡ told y → x ≡ y
+told_fixes (Ok x) (Ok y) h = ap (λ reply. Ok (record { roster = reply.roster; moved = reply.moved })) h
+told_fixes (Ok x) (Err e) h = absurd (number_not_zero e.reason (sym (ap (λ reply. reply.answer) h)))
+told_fixes (Err d) (Ok y) h = absurd (number_not_zero d.reason (ap (λ reply. reply.answer) h))
+told_fixes (Err d) (Err e) h = ap₂ (λ reason roster. Err (record { reason = reason; roster = roster })) (same_reason _ _ (ap (λ reply. reply.answer) h)) (ap (λ reply. reply.roster) h)
+
+pub foretold_fixes : (x y : Result ℤ Refusal) → foretold x ≡ foretold y → x ≡ y
+foretold_fixes = told_once foretold (λ seen. seen.answer) (λ change. refl) (λ reason. refl) (λ a b h. ap (λ seen. seen.change) h)
 
 -- what is freed and what is lacked after an event's checks
 pub checks_suffice : ChecksSuffice

@@ -1,6 +1,6 @@
 -- Demand 3 of the customer, over every history: what holds after any accepted and refused events from the empty start.
 -- Assumes nothing. The states are those of the definitions of the events' replies; `apply` is proved to give just these.
-use Rattle.std.specs.Prelude.{◌≡◌, true, ◌⊎◌, List, ℕ, ◌+◌, ◌-◌, ◌*◌, ◌≤◌, ◌<◌, pos, ◌-ℤ◌, length, replicate}
+use Rattle.std.specs.Prelude.{◌≡◌, true, ◌⊎◌, List, Result, ℤ, ℕ, ◌+◌, ◌-◌, ◌*◌, ◌≤◌, ◌<◌, pos, ◌-ℤ◌, length, replicate}
 use Rattle.base.specs.Rows.{rises_from}
 use Rattle.base.specs.Sizes.{host_fits, slots_fit}
 use Rattle.base.specs.Tables.{sum, at, total}
@@ -10,12 +10,14 @@ use Rattle.roster.specs.Roster.{hosts_of, rates_of, valid}
 use Rattle.roster.specs.Changes.{none}
 use Rattle.mover.specs.Mover.{held, changes}
 use Rattle.table.specs.Table.{belongs}
+use Rattle.base.specs.declared.Refusal.{Refusal}
+use Rattle.events.specs.declared.Change.{Change}
 use Rattle.events.specs.declared.Event.{Event}
+use Rattle.events.specs.declared.Refused.{Refused}
 use Rattle.events.specs.declared.Event.TheVariants.{Rate}
-use Rattle.events.specs.declared.Reply.{Reply}
-use Rattle.events.specs.declared.Foreseen.{Foreseen}
 use Rattle.events.specs.Events.{named, apply_rows, answer_of, roster_after, table_after, moved_by, reply_of}
 use Rattle.events.specs.Forecasts.{forecast_rows, forecast_answer, change_of, forecast_of}
+use Rattle.events.specs.Told.{told, foretold}
 
 -- the states reached: no hosts and S unowned slots, and after each event, accepted or refused, the roster and the table that it leaves
 pub data Reached (S : ℕ) : Roster → List ℕ → Type 0 where
@@ -94,12 +96,12 @@ RowsRise =
     (S : ℕ) (r : Roster) (slots : List ℕ) (e : Event) (asked : ℕ) →
     (rises_from 0 (apply_rows r S e slots) ≡ true) × (rises_from 0 (forecast_rows r S e asked) ≡ true)
 
--- over every input, two replies that meet a contract are equal, and so are the tables they leave
+-- over every input, two results that meet a contract are equal, and so are the tables they leave
 abbrev pub ReplyFixed : Type 0
 ReplyFixed =
-    (S : ℕ) (r : Roster) (slots : List ℕ) (e : Event) (x y : Reply) (t u : List ℕ) → x ≡ reply_of r S e slots → y ≡ reply_of r S e slots →
+    (S : ℕ) (r : Roster) (slots : List ℕ) (e : Event) (x y : Result Change Refused) (t u : List ℕ) → told x ≡ reply_of r S e slots → told y ≡ reply_of r S e slots →
     t ≡ table_after r S e slots → u ≡ table_after r S e slots → (x ≡ y) × (t ≡ u)
 
 abbrev pub ForecastFixed : Type 0
 ForecastFixed =
-    (S : ℕ) (r : Roster) (e : Event) (asked : ℕ) (x y : Foreseen) → x ≡ forecast_of r S e asked → y ≡ forecast_of r S e asked → x ≡ y
+    (S : ℕ) (r : Roster) (e : Event) (asked : ℕ) (x y : Result ℤ Refusal) → foretold x ≡ forecast_of r S e asked → foretold y ≡ forecast_of r S e asked → x ≡ y

@@ -11,7 +11,12 @@ use Rattle.table.specs.Table.{rearranged}
 use Rattle.table.specs.Answers.{size_rows, table_rows}
 use Rattle.events.specs.declared.Event.{Event}
 use Rattle.events.specs.declared.Event.TheVariants.{Add, Drop, Rate}
-use Rattle.events.specs.declared.Reply.{Reply}
+
+-- what an event answers: the number, the roster after it, and how many slots changed owner
+pub record Reply : Type 0 where
+  pub answer : ℕ
+  pub roster : Roster
+  pub moved : ℕ
 
 -- the host that an event names
 abbrev pub named : Event → ℕ

@@ -8,8 +8,12 @@ use Rattle.roster.specs.declared.Roster.{Roster}
 use Rattle.roster.specs.Roster.{hosts_of, rates_of, valid}
 use Rattle.mover.specs.Mover.{quota_of}
 use Rattle.events.specs.declared.Event.{Event}
-use Rattle.events.specs.declared.Foreseen.{Foreseen}
 use Rattle.events.specs.Events.{bad_host, change_rows, changed}
+
+-- what a forecast answers: the number, and the change of the host's quota
+pub record Foreseen : Type 0 where
+  pub answer : ℕ
+  pub change : ℤ
 
 -- sentence 15: the quota of a host, 0 where it is absent
 abbrev pub host_quota : Roster → ℕ → ℕ → ℕ

@@ -1,7 +1,8 @@
 // Events: a host is added, dropped or given a new rate; the roster and the lent table follow. And the forecast of one host's share.
 #![tactic(auto)]
 
-ghost use Rattle.std.specs.Prelude.{◌≡◌, true, ◌≤◌, pos, ◌-ℤ◌};
+ghost use Rattle.std.specs.Prelude.{◌≡◌, true, ◌≤◌, pos, ◌-ℤ◌, IfOk};
+ghost use Rattle.base.specs.Refusals.{answer_of};
 ghost use Rattle.base.specs.Rows.{lowest};
 ghost use Rattle.base.specs.Sizes.{host_fits, slots_fit};
 ghost use Rattle.roster.specs.Roster as rosters;
@@ -10,163 +11,160 @@ ghost use Rattle.events.specs.Forecasts as forecasts;
 ghost use Rattle.events.specs.Demand3.{StaysRight, SlotsSum, NoSmallerRatio, WithinBound, OnlyTheNamed, CountIsTrue, NoFewer, RefusedKeeps};
 ghost use Rattle.events.specs.Demand3.{SameRateStays, ForecastIsTrue, RowsRise, ReplyFixed, ForecastFixed};
 ghost use Rattle.events.specs.Laws.{ChecksSuffice, NeverFourteen};
+ghost use Rattle.events.specs.Told.{told, foretold};
 
-use roster::Roster;
+use base::Refusal;
+use roster::{Roster, ValidRoster};
 
 // A change of the roster, with the host it names. Numbers are wide enough to be out of range.
-#[derive(Clone, Copy)]
+#[derive(Clone, Copy, Debug, PartialEq, Eq)]
 pub enum Event {
     Add { host: u32, rate: u32 },
     Drop { host: u32 },
     Rate { host: u32, rate: u32 },
 }
 
-// What an event answers: the number, the roster after it, and how many slots changed owner.
-#[derive(Clone, Copy)]
-pub struct Reply {
-    pub answer: u32,
+// What an accepted event gives: the roster after it, and how many slots changed owner.
+#[derive(Clone, Copy, Debug, PartialEq, Eq)]
+pub struct Change {
     pub roster: Roster,
     pub moved: u32,
 }
 
-// What a forecast answers: the number, and the change of the host's quota.
-#[derive(Clone, Copy)]
-pub struct Foreseen {
-    pub answer: u32,
-    pub change: i32,
+// The roster that was handed in, and why the event is refused. The roster comes first, as in `Change`, so that handing it on is one copy.
+#[derive(Clone, Copy, Debug, PartialEq, Eq)]
+pub struct Refused {
+    pub roster: Roster,
+    pub reason: Refusal,
 }
 
-// The host that an event names.
-fn named(event: Event) -> u32
-    ensures { result ≡ events.named event }
-{
-    match event {
-        Event::Add { host, rate: _ } => host,
-        Event::Drop { host } => host,
-        Event::Rate { host, rate: _ } => host,
+impl Event {
+    // The host that an event names.
+    fn named(self) -> u32
+        ensures { result ≡ events.named self }
+    {
+        match self {
+            Event::Add { host, .. } => host,
+            Event::Drop { host } => host,
+            Event::Rate { host, .. } => host,
+        }
     }
 }
 
 // Rows 5, 7 and 8 of an add.
-fn add_answer(r: Roster, host: u32, rate: u32) -> u32
-    requires { (rosters.valid r ≡ true) × (host_fits host ≡ true) }
-    ensures { result ≡ lowest (events.change_rows r (Event.Add host rate)) }
+#[tactic(auto, unfolding(base::specs::Rows::lowest))]
+fn check_add(v: &ValidRoster, host: u16, rate: u32) -> Result<(), Refusal>
+    ensures { answer_of result ≡ lowest (events.change_rows v.now.roster (Event.Add host rate)) }
 {
     if !base::rate_fits(rate) {
-        return 5;
+        return Err(Refusal::Rate);
     }
-    if roster::may_drop(r, host as u16) {
-        return 7;
+    if v.lists(host) {
+        return Err(Refusal::HostPresent);
     }
-    if r.count == 256 {
-        return 8;
+    if v.roster.count == 256 {
+        return Err(Refusal::RosterFull);
     }
-    0
+    Ok(())
 }
 
 // Row 6 of a drop.
-fn drop_answer(r: Roster, host: u32) -> u32
-    requires { (rosters.valid r ≡ true) × (host_fits host ≡ true) }
-    ensures { result ≡ lowest (events.change_rows r (Event.Drop host)) }
+#[tactic(auto, unfolding(base::specs::Rows::lowest))]
+fn check_drop(v: &ValidRoster, host: u16) -> Result<(), Refusal>
+    ensures { answer_of result ≡ lowest (events.change_rows v.now.roster (Event.Drop host)) }
 {
-    if !roster::may_drop(r, host as u16) {
-        return 6;
+    if !v.lists(host) {
+        return Err(Refusal::HostAbsent);
     }
-    0
+    Ok(())
 }
 
 // Rows 5 and 6 of a new rate.
-fn rate_answer(r: Roster, host: u32, rate: u32) -> u32
-    requires { (rosters.valid r ≡ true) × (host_fits host ≡ true) }
-    ensures { result ≡ lowest (events.change_rows r (Event.Rate host rate)) }
+#[tactic(auto, unfolding(base::specs::Rows::lowest))]
+fn check_rate(v: &ValidRoster, host: u16, rate: u32) -> Result<(), Refusal>
+    ensures { answer_of result ≡ lowest (events.change_rows v.now.roster (Event.Rate host rate)) }
 {
     if !base::rate_fits(rate) {
-        return 5;
+        return Err(Refusal::Rate);
     }
-    drop_answer(r, host)
+    check_drop(v, host)
 }
 
-// Rows 5 to 8 of an event whose host number is in range.
-fn change_answer(r: Roster, event: Event) -> u32
-    requires { (rosters.valid r ≡ true) × (host_fits (events.named event) ≡ true) }
-    ensures { result ≡ lowest (events.change_rows r event) }
+// Rows 5 to 8 of an event whose host number is in range, so that sixteen bits hold it.
+#[tactic(auto, using(crate::proofs::Checks::host_narrow), unfolding(base::specs::Rows::lowest))]
+fn check_change(v: &ValidRoster, event: Event) -> Result<(), Refusal>
+    requires { host_fits (events.named event) ≡ true }
+    ensures { answer_of result ≡ lowest (events.change_rows v.now.roster event) }
 {
     match event {
-        Event::Add { host, rate } => add_answer(r, host, rate),
-        Event::Drop { host } => drop_answer(r, host),
-        Event::Rate { host, rate } => rate_answer(r, host, rate),
+        Event::Add { host, rate } => check_add(v, host as u16, rate),
+        Event::Drop { host } => check_drop(v, host as u16),
+        Event::Rate { host, rate } => check_rate(v, host as u16, rate),
     }
 }
 
 // Rows 4 to 8 of an event.
-fn event_answer(r: Roster, event: Event) -> u32
-    requires { rosters.valid r ≡ true }
-    ensures { result ≡ lowest (events.event_rows r event) }
+#[tactic(auto, unfolding(base::specs::Rows::lowest))]
+fn check_event(v: &ValidRoster, event: Event) -> Result<(), Refusal>
+    ensures { answer_of result ≡ lowest (events.event_rows v.now.roster event) }
 {
-    if !base::host_fits(named(event)) {
-        return 4;
+    if !base::host_fits(event.named()) {
+        return Err(Refusal::HostNumber);
     }
-    change_answer(r, event)
+    check_change(v, event)
 }
 
 // The roster with an event's change.
-fn changed(r: Roster, event: Event) -> Roster
+fn changed(v: &ValidRoster, event: Event) -> ValidRoster
     requires { host_fits (events.named event) ≡ true }
-    ensures { result ≡ events.changed r event }
+    ensures { result.roster ≡ events.changed v.now.roster event }
 {
-    match event {
+    let r = v.roster;
+    let roster = match event {
         Event::Add { host, rate } => roster::added(r, host as u16, rate),
         Event::Drop { host } => roster::dropped(r, host as u16),
         Event::Rate { host, rate } => roster::rerated(r, host as u16, rate),
-    }
+    };
+    ValidRoster { roster }
+}
+
+// The roster with an event's change, where none of the event's rows holds.
+fn next_roster(r: Roster, slots: u32, event: Event, table: &[u16]) -> Result<ValidRoster, Refusal>
+    ensures answer { answer_of result ≡ events.answer_of r slots event table.now }
+    ensures next { IfOk result (λ v. v.roster ≡ events.changed r event) }
+{
+    table::check(r, slots, table)?;
+    let v = ValidRoster::try_from(r)?;
+    check_event(&v, event)?;
+    Ok(changed(&v, event))
 }
 
 // Applies an event to a roster and its table. A refusal hands the roster back as it came and leaves the table.
-pub fn apply(r: Roster, slots: u32, event: Event, table: &mut [u16]) -> Reply
-    ensures reply { result ≡ events.reply_of r slots event table.old }
+pub fn apply(r: Roster, slots: u32, event: Event, table: &mut [u16]) -> Result<Change, Refused>
+    ensures reply { told result ≡ events.reply_of r slots event table.old }
     ensures owners { table.new ≡ events.table_after r slots event table.old }
 {
-    let c = table::check(r, slots, table);
-    if c.answer != 0 {
-        return Reply {
-            answer: c.answer,
-            roster: r,
-            moved: 0,
-        };
-    }
-    let a = event_answer(r, event);
-    if a != 0 {
-        return Reply {
-            answer: a,
-            roster: r,
-            moved: 0,
-        };
-    }
-    let next = changed(r, event);
-    // the checks suffice for the move, so its answer is 0
-    let m = table::rearrange(next, slots, table);
-    Reply {
-        answer: 0,
-        roster: next,
-        moved: m.count,
+    match next_roster(r, slots, event, table) {
+        Err(reason) => Err(Refused { reason, roster: r }),
+        Ok(next) => {
+            let roster = next.roster;
+            // the checks suffice for the move, so it is not refused
+            let moved = table::rearrange(roster, slots, table).unwrap();
+            Ok(Change { roster, moved })
+        }
     }
 }
 
 // A host's quota, 0 where it is not on the roster.
-fn quota_of(r: Roster, slots: u32, host: u16) -> u32
-    requires { (rosters.valid r ≡ true) × (slots_fit slots ≡ true) }
-    ensures quota { result ≡ forecasts.host_quota r slots host }
+fn quota_of(v: &ValidRoster, slots: u32, host: u16) -> u32
+    requires { slots_fit slots ≡ true }
+    ensures quota { result ≡ forecasts.host_quota v.now.roster slots host }
     ensures small { result ≤ 16384 }
 {
-    if !roster::may_drop(r, host) {
+    if !v.lists(host) {
         return 0;
     }
-    let n = r.count;
-    let hosts = r.hosts;
-    let p = roster::place(&hosts[..n], host);
-    let rates = r.rates;
-    let quotas = quota::quotas(&rates[..n], slots);
-    quotas[p]
+    quota::quotas(v.rates(), slots)[v.place(host)]
 }
 
 // One quota less another, as a signed number.
@@ -177,42 +175,31 @@ fn less(after: u32, before: u32) -> i32
     after as i32 - before as i32
 }
 
-// How a host's quota would change with an event: the event's checks but for the table, and no table at all.
-pub fn forecast(r: Roster, slots: u32, event: Event, asked: u32) -> Foreseen
-    ensures { result ≡ forecasts.forecast_of r slots event asked }
-{
-    let a = forecast_answer(r, slots, event, asked);
-    if a != 0 {
-        return Foreseen {
-            answer: a,
-            change: 0,
-        };
-    }
-    let before = quota_of(r, slots, asked as u16);
-    let after = quota_of(changed(r, event), slots, asked as u16);
-    Foreseen {
-        answer: 0,
-        change: less(after, before),
-    }
-}
-
-// The rows of a forecast.
-fn forecast_answer(r: Roster, slots: u32, event: Event, asked: u32) -> u32
-    ensures { result ≡ forecasts.forecast_answer r slots event asked }
+// The roster of a forecast, where none of the forecast's rows holds.
+#[tactic(auto, unfolding(crate::specs::Forecasts::forecast_answer, base::specs::Rows::lowest))]
+fn foreseeing(r: Roster, slots: u32, event: Event, asked: u32) -> Result<ValidRoster, Refusal>
+    ensures answer { answer_of result ≡ forecasts.forecast_answer r slots event asked }
+    ensures same { IfOk result (λ v. v.roster ≡ r) }
 {
     if !base::slots_fit(slots) {
-        return 1;
+        return Err(Refusal::SlotCount);
     }
-    if !roster::valid(r) {
-        return 2;
+    let v = ValidRoster::try_from(r)?;
+    if !base::host_fits(event.named()) || !base::host_fits(asked) {
+        return Err(Refusal::HostNumber);
     }
-    if !base::host_fits(named(event)) {
-        return 4;
-    }
-    if !base::host_fits(asked) {
-        return 4;
-    }
-    change_answer(r, event)
+    check_change(&v, event)?;
+    Ok(v)
+}
+
+// How a host's quota would change with an event: the event's checks but for the table, and no table at all.
+pub fn forecast(r: Roster, slots: u32, event: Event, asked: u32) -> Result<i32, Refusal>
+    ensures { foretold result ≡ forecasts.forecast_of r slots event asked }
+{
+    let v = foreseeing(r, slots, event, asked)?;
+    let before = quota_of(&v, slots, asked as u16);
+    let after = quota_of(&changed(&v, event), slots, asked as u16);
+    Ok(less(after, before))
 }
 
 // Demand 3 over every history, and that replies are fixed: without their proofs this function is not proved.

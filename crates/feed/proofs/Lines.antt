@@ -1,19 +1,18 @@
 -- Laws of the next whole line: its end found byte by byte, and the meaning with the line taken.
 -- Assumes nothing.
 use mathlib.Core.Path.{◌≡◌, refl, sym, ap, ◌∙◌}
-use mathlib.Core.Bool.{Bool, true, false, not, and-false, or-true}
+use mathlib.Core.Bool.{true, false, and-false}
 use mathlib.Core.List.{List, [], ◌∷◌, ◌++◌, append-nil, append_assoc}
-use Prim.Native.Nat.{ℕ, suc, ◌+◌, ◌-◌, ◌≤◌, ◌<◌, min}
+use Prim.Native.Nat.{ℕ, suc, ◌+◌, ◌≤◌, ◌<◌, min}
 use native.Mathlib.Nat.{not-suc-le-zero, le_of_suc-le-suc}
-use native.Mathlib.Numerals.{add-one}
 use native.Mathlib.Omega.{arith, by_contra}
-use borrow.Author.Tests.{lt-ltb, le-ltb, eq-eqb, ne_eqb, ltb-true, ltb-false, leb-true, leb-false, not-true}
-use lib.Dec.{eqb, ltb, leb}
+use borrow.Author.Tests.{le-ltb, ne_eqb, ltb-true, ltb-false}
+use lib.Dec.{eqb, ltb}
 use lib.ListN.{length, take, drop, length-append, length-drop, drop_of_length-le}
-use lib.Seq.{drop-cons, drop-drop, take-length}
-use Rattle.base.specs.Tables.{at}
-use Rattle.base.proofs.Tests.{by_test, never, and_left, and_right, or_left, or_right}
-use Rattle.lines.specs.declared.Read.TheVariants.{Malformed}
+use lib.Seq.{drop-drop, take-length}
+use Rattle.std.specs.List.{position_or_len}
+use Rattle.base.proofs.Tests.{by_test, never, or_left, or_right}
+use Rattle.lines.specs.Lines.{malformed}
 use Rattle.lines.proofs.Promised.{long_malformed}
 use Rattle.stream.specs.declared.State.{State}
 use Rattle.stream.specs.declared.Said.TheVariants.{Wrong}
@@ -22,23 +21,16 @@ use Rattle.stream.specs.Text.{text_of}
 use Rattle.stream.specs.Meaning.{may_begin, at_end, meaning}
 use Rattle.stream.proofs.Turns.{turn_says}
 use Rattle.stream.proofs.Meanings.{stopped_takes, stopped_silent}
-use Rattle.feed.specs.declared.Span.{Span}
-use Rattle.feed.specs.Feed.{before_ten, has_line, line_at, waits, span_of, nothing, fed, owners_fed}
+use Rattle.feed.specs.Feed.{before_ten, has_line, line_at, nothing, fed, owners_fed}
 use Rattle.feed.specs.Laws.{NextGoes, NothingLeft, PieceLeft, LongPiece, EndPrints, FedFixed, EndFixed}
 
 -- the end of a line ------------------------------------------------------------------------
 
-pub ten_here : (bytes : List ℕ) (i : ℕ) → i < length bytes → at bytes i ≡ 10 → before_ten (drop i bytes) ≡ 0
+-- as std counts up to it
+pub ten_first : (bytes : List ℕ) → position_or_len (λ byte. eqb byte 10) bytes ≡ before_ten bytes
 unfolding before_ten
-ten_here bytes i l e = ap before_ten (drop-cons bytes i 0 l) ∙ rw (eq-eqb _ _ e)
-
-pub ten_later : (bytes : List ℕ) (i : ℕ) → i < length bytes → (at bytes i ≡ 10 → ⊥) → before_ten (drop i bytes) ≡ before_ten (drop (i + 1) bytes) + 1
-unfolding before_ten
-ten_later bytes i l n = ap before_ten (drop-cons bytes i 0 l) ∙ rw (ne_eqb _ _ n, add-one i, add-one (before_ten (drop (suc i) bytes)))
-
-pub ten_none : (bytes : List ℕ) (i : ℕ) → length bytes ≤ i → before_ten (drop i bytes) ≡ 0
-unfolding before_ten
-ten_none bytes i l = rw (drop_of_length-le bytes l)
+ten_first [] = refl
+ten_first (byte ∷ bytes) = by_test (eqb byte 10) (λ t. rw t) (λ f. rw f (omega (arith, ten_first bytes)))
 
 pub ten_within : (bytes : List ℕ) → before_ten bytes ≤ length bytes
 unfolding before_ten
@@ -50,61 +42,12 @@ ten_within (byte ∷ bytes) = by_test (eqb byte 10) (λ t. rw t (omega arith)) (
 pub none_past : (input : List ℕ) (from : ℕ) → length input ≤ from → has_line input from ≡ false
 none_past input from l = let size = length-drop from input in rw (le-ltb (before_ten (drop from input)) (length (drop from input)) (omega arith), le-ltb 8192 (length (drop from input)) (omega arith))
 
-pub none-waits : (input : List ℕ) (from end : ℕ) → from ≤ length input → end ≡ from + before_ten (drop from input) → waits (length input) from end ≡ true → has_line input from ≡ false
-none-waits input from end l e w =
-    let size = length-drop from input in
-    let late = ltb-false end (length input) (not-true (ltb end (length input)) (and_left (not (ltb end (length input))) (leb (length input - from) 8192) w)) in
-    let short = leb-true (length input - from) 8192 (and_right (not (ltb end (length input))) (leb (length input - from) 8192) w) in
-    rw (le-ltb (before_ten (drop from input)) (length (drop from input)) (omega arith), le-ltb 8192 (length (drop from input)) (omega arith))
-
-pub line_there : (input : List ℕ) (from end : ℕ) → from ≤ length input → end ≡ from + before_ten (drop from input) → waits (length input) from end ≡ false → has_line input from ≡ true
-line_there input from end l e w =
-    let size = length-drop from input in
-    by_test (ltb end (length input))
-    (λ t. let early = ltb-true end (length input) t in rw (lt-ltb (before_ten (drop from input)) (length (drop from input)) (omega arith)))
-    (λ f. let long = leb-false (length input - from) 8192 (rw f at w) in rw (lt-ltb 8192 (length (drop from input)) (omega arith)) (or-true (ltb (before_ten (drop from input)) (length (drop from input)))))
-
 pub piece_left : PieceLeft
 piece_left input from f =
     let bytes = drop from input in
     let none = ltb-false (before_ten bytes) (length bytes) (or_left (ltb (before_ten bytes) (length bytes)) (ltb 8192 (length bytes)) f) in
     let most = ten_within bytes in
     (omega arith, ltb-false 8192 (length bytes) (or_right (ltb (before_ten bytes) (length bytes)) (ltb 8192 (length bytes)) f))
-
--- where a line stands -----------------------------------------------------------------------
-
-pub span_past : (input : List ℕ) (from : ℕ) → length input ≤ from → record { there = false; end = from; next = length input } ≡ span_of input from
-span_past input from l =
-    let none = ten_none input from l in
-    let behind : min (from + before_ten (drop from input) + 1) (length input) ≡ length input = omega arith in
-    let here : from + before_ten (drop from input) ≡ from = omega arith in
-    sym (rw (none_past input from l, behind, here))
-
-pub span_here : (input : List ℕ) (from end next : ℕ) (waiting : Bool) → from ≤ length input → end ≡ from + before_ten (drop from input) → waiting ≡ waits (length input) from end
-    → next ≡ min (end + 1) (length input) → record { there = not waiting; end = end; next = next } ≡ span_of input from
-span_here input from end next waiting l e w n =
-    let there : not (waits (length input) from end) ≡ has_line input from =
-    by_test (waits (length input) from end)
-    (λ t. rw (t, none-waits input from end l e t))
-    (λ f. rw (f, line_there input from end l e f)) in
-    rw (n, w, there, e)
-
--- a line that can be taken stands within the buffer
-pub span_within : (x : Span) (input : List ℕ) (from : ℕ) → x ≡ span_of input from → x.there ≡ true → (from ≤ x.end) × (x.end ≤ length input)
-span_within x input from is t =
-    let size = length-drop from input in
-    let most = ten_within (drop from input) in
-    let end = ap (λ s. s.end) is in
-    let within : from ≤ length input = by_contra from (length input) (λ w. never x.there t (ap (λ s. s.there) is ∙ none_past input from (omega arith))) in
-    (omega arith, omega arith)
-
--- the line as the code cuts it
-pub line_cut : (input : List ℕ) (from end : ℕ) → end ≡ from + before_ten (drop from input) → take (end - from) (drop from input) ≡ line_at input from
-line_cut input from end e = let size : end - from ≡ before_ten (drop from input) = omega arith in ap (λ n. take n (drop from input)) size
-
-pub fed-none : (s : State) (owners input : List ℕ) (from : ℕ) → has_line input from ≡ false → fed s owners input from ≡ nothing s from
-unfolding fed
-fed-none s owners input from f = rw f
 
 pub owners-none : (s : State) (owners input : List ℕ) (from : ℕ) → has_line input from ≡ false → owners_fed s owners input from ≡ owners
 unfolding owners_fed
@@ -148,7 +91,7 @@ end_prints s owners piece e = ap (meaning s owners []) (sym (append-nil piece)) 
 
 -- a long piece is malformed whether byte 10 comes or the end
 long_takes : (s : State) (owners piece : List ℕ) → s.stopped ≡ false → 8192 < length piece → takes s owners piece ≡ record { state = halted s; said = Wrong (next_number s.lines) }
-long_takes s owners piece on l = turn_says s owners piece (Malformed (next_number s.lines)) on (long_malformed s.due (next_number s.lines) piece l)
+long_takes s owners piece on l = turn_says s owners piece (malformed (next_number s.lines)) on (long_malformed s.due (next_number s.lines) piece l)
 
 long_waits : (s : State) (owners piece rest : List ℕ) → s.stopped ≡ false → 8192 < length piece → meaning s owners piece rest ≡ text_of (Wrong (next_number s.lines))
 unfolding meaning at_end

@@ -1,6 +1,6 @@
 -- What feeding a stream promises, as statements; the function `promises` holds them all.
 -- Assumes nothing.
-use Rattle.std.specs.Prelude.{◌≡◌, true, false, List, [], ◌++◌, ℕ, ◌<◌, ◌≤◌, length, drop}
+use Rattle.std.specs.Prelude.{◌≡◌, true, false, Option, Some, List, [], ◌++◌, ℕ, ◌<◌, ◌≤◌, length, drop}
 use Rattle.stream.specs.declared.State.{State}
 use Rattle.stream.specs.declared.Said.{Said}
 use Rattle.stream.specs.declared.Said.TheVariants.{Wrong}
@@ -11,7 +11,7 @@ use Rattle.stream.specs.Meaning.{at_end, meaning}
 use Rattle.feed.specs.declared.Fed.{Fed}
 use Rattle.feed.specs.declared.Passing.{Passing}
 use Rattle.feed.specs.Passing.{passes_by}
-use Rattle.feed.specs.Feed.{before_ten, has_line, fed, owners_fed}
+use Rattle.feed.specs.Feed.{before_ten, has_line, fed, fed_next, owners_fed}
 
 -- whatever comes behind the buffer, the meaning is what the next line prints and then the meaning from the state after it
 abbrev pub NextGoes : Type 0
@@ -40,7 +40,7 @@ EndPrints = (s : State) (owners piece : List ℕ) → before_ten piece ≡ lengt
 -- two replies that meet a contract are equal, and so are the owners they leave
 abbrev pub FedFixed : Type 0
 FedFixed =
-    (s : State) (owners input : List ℕ) (from : ℕ) (x y : Fed) (t u : List ℕ) → x ≡ fed s owners input from → y ≡ fed s owners input from →
+    (s : State) (owners input : List ℕ) (from : ℕ) (x y : Option Fed) (t u : List ℕ) → x ≡ fed_next s owners input from → y ≡ fed_next s owners input from →
     t ≡ owners_fed s owners input from → u ≡ owners_fed s owners input from → (x ≡ y) × (t ≡ u)
 
 abbrev pub EndFixed : Type 0
@@ -49,9 +49,9 @@ EndFixed = (s : State) (piece : List ℕ) (x y : Said) → x ≡ at_end s piece 
 -- a next line taken with no roster at hand leaves what feeding it leaves, and the owners as they were
 abbrev pub PassedFed : Type 0
 PassedFed =
-    (s : State) (owners input : List ℕ) (from : ℕ) (p : Passing) → p ≡ passes_by s.due (next_number s.lines) s.slots owners input from → s.stopped ≡ false → p.taken ≡ true →
-    (record { state = goes_on s p.due; said = p.said; next = p.next } ≡ fed s owners input from) × (owners ≡ owners_fed s owners input from)
+    (s : State) (owners input : List ℕ) (from : ℕ) (p : Passing) → passes_by s.due (next_number s.lines) s.slots owners input from ≡ Some p → s.stopped ≡ false →
+    (fed_next s owners input from ≡ Some (record { state = goes_on s p.due; said = p.said; next = p.next })) × (owners_fed s owners input from ≡ owners)
 
 abbrev pub PassingFixed : Type 0
 PassingFixed =
-    (due : Due) (number slots : ℕ) (owners input : List ℕ) (from : ℕ) (x y : Passing) → x ≡ passes_by due number slots owners input from → y ≡ passes_by due number slots owners input from → x ≡ y
+    (due : Due) (number slots : ℕ) (owners input : List ℕ) (from : ℕ) (x y : Option Passing) → x ≡ passes_by due number slots owners input from → y ≡ passes_by due number slots owners input from → x ≡ y

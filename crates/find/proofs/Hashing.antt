@@ -1,14 +1,15 @@
--- Laws of a hash rule, over its word size and constants: a product by halves, a step, and a key from the front.
+-- Laws of a hash rule, over its word size and constants: a product by halves and what a word keeps of it, which no function needs any more, and a key from the front.
 -- Assumes nothing.
 use mathlib.Core.Path.{◌≡◌, refl, sym, ap, ◌∙◌}
 use mathlib.Core.List.{List, [], ◌∷◌, ◌++◌}
-use Prim.Native.Nat.{ℕ, ◌+◌, ◌*◌, ◌/◌, ◌%◌, ◌≤◌, ◌<◌}
+use Prim.Native.Nat.{ℕ, ◌+◌, ◌*◌, ◌/◌, ◌%◌, ◌<◌}
 use native.Mathlib.Nat.{mod-lt, div-add-mod', mod-mod_of_dvd, dvd-mul_right}
 use native.Mathlib.Numerals.{add-one}
 use native.Mathlib.Omega.{arith}
 use lib.Arith.{digits_lt, digits_mod}
-use lib.ListN.{length, drop, drop_of_length-le}
+use lib.ListN.{length, drop}
 use lib.Seq.{drop-cons}
+use Rattle.std.specs.List.{fold}
 use Rattle.base.specs.Tables.{at}
 use Rattle.find.specs.Hash.{Rule, stepped, hash_from}
 use Rattle.find.specs.Laws.{HashIsWord, HashGrows}
@@ -44,13 +45,15 @@ kept_of_kept n words m = mod-mod_of_dvd words n (dvd-mul_right words m)
 
 -- a key from the front -------------------------------------------------------------
 
+-- byte after byte is a fold of steps
+pub hash_fold : (rule : Rule) (hash : ℕ) (key : List ℕ) → hash_from rule hash key ≡ fold (stepped rule) hash key
+unfolding hash_from
+hash_fold rule hash [] = refl
+hash_fold rule hash (byte ∷ key) = hash_fold rule (stepped rule hash byte) key
+
 pub hash_next : (rule : Rule) (hash : ℕ) (key : List ℕ) (i : ℕ) → i < length key → hash_from rule (stepped rule hash (at key i)) (drop (i + 1) key) ≡ hash_from rule hash (drop i key)
 unfolding hash_from
 hash_next rule hash key i l = rw (add-one i, drop-cons key i 0)
-
-pub hash_done : (rule : Rule) (hash : ℕ) (key : List ℕ) (i : ℕ) → length key ≤ i → hash_from rule hash (drop i key) ≡ hash
-unfolding hash_from
-hash_done rule hash key i l = rw (drop_of_length-le key l)
 
 from_word : (rule : Rule) (hash : ℕ) → hash < rule.words → (key : List ℕ) → hash_from rule hash key < rule.words
 unfolding hash_from stepped

@@ -1,6 +1,6 @@
 -- A find's reply: what it is at each row, and the laws of it.
 -- Assumes nothing.
-use mathlib.Core.Path.{◌≡◌, refl, sym, ◌∙◌}
+use mathlib.Core.Path.{◌≡◌, refl, sym, ap, ◌∙◌}
 use mathlib.Core.Bool.{true, false}
 use mathlib.Core.Logic.{◌≢◌}
 use mathlib.Core.List.{List}
@@ -10,12 +10,16 @@ use native.Mathlib.Omega.{arith}
 use lib.Dec.{leb}
 use lib.ListN.{length}
 use borrow.Author.Tests.{lt-ltb, le-ltb, eq-eqb, ne_eqb, leb-true, eqb-true, ltb-true, ltb-false}
+use Rattle.std.specs.Prelude.{Result}
 use Rattle.base.specs.Tables.{at}
 use Rattle.base.specs.Sizes.{slots_fit}
 use Rattle.base.specs.Rows.{lowest, rises_from}
+use Rattle.base.specs.declared.Refusal.{Refusal}
 use Rattle.base.proofs.Tests.{by_test, and_left, and_right}
+use Rattle.base.proofs.Refusals.{told_once}
+use Rattle.find.specs.declared.Owner.{Owner}
 use Rattle.find.specs.Hash.{slot_of}
-use Rattle.find.specs.Reply.{length_fits, too_long, answer_of, found, refusal}
+use Rattle.find.specs.Reply.{length_fits, too_long, answer_of, found, refusal, told}
 use Rattle.find.specs.Laws.{RowsRise, FoundIsOwner, RefusedIsNothing, FindFixed, ViewFixed, FindInFixed}
 
 -- at each row ----------------------------------------------------------------------
@@ -98,12 +102,15 @@ pub refused_is_nothing : RefusedIsNothing
 unfolding found
 refused_is_nothing table slots key ne = (rw (ne_eqb _ _ ne), rw (ne_eqb _ _ ne))
 
--- what equals the same reply is equal
+-- results that tell the same reply are the same
+once : (x y : Result Owner Refusal) → told x ≡ told y → x ≡ y
+once = told_once told (λ f. f.answer) (λ owner. refl) (λ reason. refl) (λ a b h. ap (λ f. record { slot = f.slot; host = f.host }) h)
+
 pub find_fixed : FindFixed
-find_fixed table slots key x y a b = a ∙ sym b
+find_fixed table slots key x y a b = once x y (a ∙ sym b)
 
 pub view_fixed : ViewFixed
 view_fixed owners stated x y a b = a ∙ sym b
 
 pub find_in_fixed : FindInFixed
-find_in_fixed view key x y a b = a ∙ sym b
+find_in_fixed view key x y a b = once x y (a ∙ sym b)

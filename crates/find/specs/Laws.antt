@@ -1,13 +1,14 @@
 -- What a find promises, as statements; the function `promises` holds them all.
 -- Assumes nothing.
-use Rattle.std.specs.Prelude.{◌≡◌, true, ◌≢◌, List, [], ◌∷◌, ◌++◌, ℕ, ◌<◌, length}
+use Rattle.std.specs.Prelude.{◌≡◌, true, ◌≢◌, List, [], ◌∷◌, ◌++◌, ℕ, ◌<◌, Result, length}
 use Rattle.std.specs.Borrow.{Bor}
 use Rattle.base.specs.Tables.{at}
 use Rattle.base.specs.Rows.{rises_from}
-use Rattle.find.specs.declared.Found.{Found}
+use Rattle.base.specs.declared.Refusal.{Refusal}
+use Rattle.find.specs.declared.Owner.{Owner}
 use Rattle.find.specs.declared.View.{View}
 use Rattle.find.specs.Hash.{Rule, stepped, hash_of, slot_of}
-use Rattle.find.specs.Reply.{rows, found, view_of, found_in}
+use Rattle.find.specs.Reply.{rows, found, told, view_of, found_in}
 
 -- by any rule a hash is a word
 abbrev pub HashIsWord : Type 0
@@ -34,13 +35,13 @@ RefusedIsNothing =
     (table : List ℕ) (slots : ℕ) (key : List ℕ) → (found table slots key).answer ≢ 0 →
     ((found table slots key).slot ≡ 0) × ((found table slots key).host ≡ 0)
 
--- two replies that meet the contract of a find are equal
+-- two results that meet the contract of a find are equal
 abbrev pub FindFixed : Type 0
-FindFixed = (table : List ℕ) (slots : ℕ) (key : List ℕ) (x y : Found) → x ≡ found table slots key → y ≡ found table slots key → x ≡ y
+FindFixed = (table : List ℕ) (slots : ℕ) (key : List ℕ) (x y : Result Owner Refusal) → told x ≡ found table slots key → told y ≡ found table slots key → x ≡ y
 
--- and so are two views of a table, and two replies through one view
+-- and so are two views of a table, and two results through one view
 abbrev pub ViewFixed : Type 0
 ViewFixed = (owners : Bor (List ℕ)) (stated : ℕ) (x y : View) → x ≡ view_of owners stated → y ≡ view_of owners stated → x ≡ y
 
 abbrev pub FindInFixed : Type 0
-FindInFixed = (view : View) (key : List ℕ) (x y : Found) → x ≡ found_in view key → y ≡ found_in view key → x ≡ y
+FindInFixed = (view : View) (key : List ℕ) (x y : Result Owner Refusal) → told x ≡ found_in view key → told y ≡ found_in view key → x ≡ y

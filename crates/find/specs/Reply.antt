@@ -1,11 +1,13 @@
 -- What a find replies (document 01, Finding a host, last sentence, and Numbers answered): its rows, its answer, the slot and the host.
 -- Assumes nothing.
-use Rattle.std.specs.Prelude.{Bool, ◌&&◌, not, cond, List, [], ◌∷◌, ℕ, ltb, eqb, length}
+use Rattle.std.specs.Prelude.{Bool, ◌&&◌, not, cond, List, [], ◌∷◌, ℕ, Result, Ok, Err, ltb, eqb, length}
 use Rattle.std.specs.Borrow.{Bor}
 use Rattle.base.specs.Tables.{at}
 use Rattle.base.specs.Sizes.{slots_fit}
 use Rattle.base.specs.Rows.{Row, lowest}
-use Rattle.find.specs.declared.Found.{Found}
+use Rattle.base.specs.Refusals.{number_of}
+use Rattle.base.specs.declared.Refusal.{Refusal}
+use Rattle.find.specs.declared.Owner.{Owner}
 use Rattle.find.specs.declared.View.{View}
 use Rattle.find.specs.Hash.{slot_of}
 
@@ -33,6 +35,12 @@ answer_of table slots key = lowest (rows table slots key)
 abbrev pub given : ℕ → ℕ → ℕ
 given answer value = cond (eqb answer 0) value 0
 
+-- a find's reply: the answer, and with 0 the slot and its owner
+pub record Found : Type 0 where
+  pub answer : ℕ
+  pub slot : ℕ
+  pub host : ℕ
+
 -- the whole reply
 unfoldable pub found : List ℕ → ℕ → List ℕ → Found
 found table slots key =
@@ -42,6 +50,11 @@ found table slots key =
 -- a refusal by number: slot 0 and host 0
 abbrev pub refusal : ℕ → Found
 refusal number = record { answer = number; slot = 0; host = 0 }
+
+-- the reply that a result tells: the owner with 0, or the reason's number with nothing
+abbrev pub told : Result Owner Refusal → Found
+told (Ok owner) = record { answer = 0; slot = owner.slot; host = owner.host }
+told (Err reason) = refusal (number_of reason)
 
 -- sentence 4: the reading view holds the lent table and its length
 abbrev pub view_of : Bor (List ℕ) → ℕ → View

@@ -4,30 +4,22 @@
 
 use std::io;
 
+// The published strings.
+const STRINGS: [&str; 12] = [
+    "", "a", "b", "c", "d", "e", "f", "fo", "foo", "foob", "fooba", "foobar",
+];
+
 // A line: what the key is called, and its hash as eight hexadecimal digits.
 fn print_hash(rt: &impl Print, name: &str, key: &[u8]) -> io::Result<()> {
     let hash = find::hash(key);
     println!(rt; "{name}={hash:08x}")
 }
 
-// A string is called by itself.
-fn print_string(rt: &impl Print, key: &str) -> io::Result<()> {
-    print_hash(rt, key, key.as_bytes())
-}
-
 fn main(rt: HostRuntime) -> io::Result<()> {
-    print_string(&rt, "")?;
-    print_string(&rt, "a")?;
-    print_string(&rt, "b")?;
-    print_string(&rt, "c")?;
-    print_string(&rt, "d")?;
-    print_string(&rt, "e")?;
-    print_string(&rt, "f")?;
-    print_string(&rt, "fo")?;
-    print_string(&rt, "foo")?;
-    print_string(&rt, "foob")?;
-    print_string(&rt, "fooba")?;
-    print_string(&rt, "foobar")?;
+    // a string is called by itself
+    for string in STRINGS {
+        print_hash(&rt, string, string.as_bytes())?;
+    }
     print_hash(&rt, "a x 4096", &[b'a'; 4_096])?;
     print_hash(&rt, "a x 4097", &[b'a'; 4_097])
 }

@@ -1,4 +1,3 @@
 pub mod Texts
 pub mod Starts
-pub mod Dues
 pub mod Promised

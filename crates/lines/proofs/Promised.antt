@@ -4,22 +4,22 @@ use mathlib.Core.Path.{◌≡◌, refl, sym, ap, ◌∙◌}
 use mathlib.Core.Bool.{Bool, true, false, cond}
 use mathlib.Core.Logic.{◌≢◌}
 use mathlib.Core.List.{List, [], ◌∷◌, ◌++◌}
+use Rattle.std.specs.Prelude.{Option, Some, None, Result, Ok, Err}
 use Prim.Native.Nat.{ℕ, suc}
 use native.Mathlib.Omega.{arith}
 use borrow.Author.Tests.{lt-ltb, eqb-true}
 use lib.Dec.{eqb, ltb}
 use lib.ListN.{length, drop}
 use Rattle.base.proofs.Tests.{and_left, and_right, by_test, never}
-use Rattle.lines.specs.declared.Number.{Number}
-use Rattle.lines.specs.declared.Number.TheVariants.{Is, Spoilt}
 use Rattle.lines.specs.declared.Due.{Due}
 use Rattle.lines.specs.declared.Due.TheVariants.{Slots, Opening, HostAdded, RateAdded, HostDropped, HostRerated, NewRate, Key}
 use Rattle.events.specs.declared.Event.TheVariants.{Add, Drop, Rate}
 use Rattle.lines.specs.declared.Record.TheVariants.{Change, Find, Comment}
 use Rattle.lines.specs.declared.Read.{Read}
-use Rattle.lines.specs.declared.Read.TheVariants.{Count, Part, Whole, Malformed}
+use Rattle.lines.specs.declared.Read.TheVariants.{Count, Part, Whole}
+use Rattle.lines.specs.declared.Malformed.{Malformed}
 use Rattle.lines.specs.Numbers.{is_number, number_of}
-use Rattle.lines.specs.Lines.{slots_name, host_name, rate_name, key_name, comment_sign, op_add, op_drop, op_rate, op_find, starts_with, is_line, field_of, key_of, after_equals, brings, with_number, opens, keyed, read_due, read_line, answer_of, line_of, records_of}
+use Rattle.lines.specs.Lines.{slots_name, host_name, rate_name, key_name, comment_sign, op_add, op_drop, op_rate, op_find, starts_with, is_line, field_of, key_of, after_equals, malformed, brings, with_number, opens, keyed, read_due, read_line, answer_of, line_of, records_of}
 use Rattle.lines.specs.Laws.{NumberSays, KeyAfterEquals, MalformedCarries, OthersCarry, LongMalformed, CommentInside, NumberFixed, KeyFixed, ReadFixed}
 
 -- numbers -----------------------------------------------------------------------------
@@ -62,11 +62,11 @@ unfolding starts_with
 starts_otherwise a b name [] d s = refl
 starts_otherwise a b name (byte ∷ line) d s = rw (sym (eqb-true a byte (and_left (eqb a byte) _ s)), d)
 
-no_field : (a b : ℕ) (name line : List ℕ) → eqb b a ≡ false → starts_with (a ∷ []) line ≡ true → field_of (b ∷ name) line ≡ Spoilt
+no_field : (a b : ℕ) (name line : List ℕ) → eqb b a ≡ false → starts_with (a ∷ []) line ≡ true → field_of (b ∷ name) line ≡ None
 unfolding field_of
 no_field a b name line d s = rw (starts_otherwise a b name line d s)
 
-comment_due : (due : Due) (number : ℕ) (line : List ℕ) → (due ≡ Opening → ⊥) → starts_with (35 ∷ []) line ≡ true → read_due due number line ≡ Malformed number
+comment_due : (due : Due) (number : ℕ) (line : List ℕ) → (due ≡ Opening → ⊥) → starts_with (35 ∷ []) line ≡ true → read_due due number line ≡ malformed number
 unfolding keyed
 comment_due Slots number line o s = ap (with_number Slots number) (no_field 35 115 _ line refl s)
 comment_due Opening number line o s = absurd (o refl)
@@ -84,45 +84,45 @@ comment_inside due number line o s = by_test (ltb 8192 (length line)) (λ e. rw 
 -- what 13 carries ------------------------------------------------------------------------
 
 -- a read that answers 13 is malformed at this line
-record Carries (number : ℕ) (r : Read) : Type 0 where
-  is : answer_of r ≡ 13 → r ≡ Malformed number
+record Carries (number : ℕ) (r : Result Read Malformed) : Type 0 where
+  is : answer_of r ≡ 13 → r ≡ malformed number
 
-whole : {number : ℕ} (r : Read) → answer_of r ≡ 0 → Carries number r
+whole : {number : ℕ} (r : Result Read Malformed) → answer_of r ≡ 0 → Carries number r
 whole r z = record { is = λ e. absurd (omega arith) }
 
-spoilt : {number : ℕ} → Carries number (Malformed number)
+spoilt : {number : ℕ} → Carries number (malformed number)
 spoilt = record { is = λ e. refl }
 
-either : {number : ℕ} {x y : Read} (b : Bool) → Carries number x → Carries number y → Carries number (cond b x y)
+either : {number : ℕ} {x y : Result Read Malformed} (b : Bool) → Carries number x → Carries number y → Carries number (cond b x y)
 either true f g = f
 either false f g = g
 
 carries_brought : (due : Due) (number value : ℕ) → Carries number (brings due number value)
-carries_brought Slots number value = whole (Count value) refl
+carries_brought Slots number value = whole (Ok (Count value)) refl
 carries_brought Opening number value = spoilt
-carries_brought HostAdded number value = whole (Part (RateAdded value)) refl
-carries_brought (RateAdded host) number value = whole (Whole (Change (Add host value))) refl
-carries_brought HostDropped number value = whole (Whole (Change (Drop value))) refl
-carries_brought HostRerated number value = whole (Part (NewRate value)) refl
-carries_brought (NewRate host) number value = whole (Whole (Change (Rate host value))) refl
+carries_brought HostAdded number value = whole (Ok (Part (RateAdded value))) refl
+carries_brought (RateAdded host) number value = whole (Ok (Whole (Change (Add host value)))) refl
+carries_brought HostDropped number value = whole (Ok (Whole (Change (Drop value)))) refl
+carries_brought HostRerated number value = whole (Ok (Part (NewRate value))) refl
+carries_brought (NewRate host) number value = whole (Ok (Whole (Change (Rate host value)))) refl
 carries_brought Key number value = spoilt
 
-carries-number : (due : Due) (number : ℕ) (n : Number) → Carries number (with_number due number n)
-carries-number due number (Is value) = carries_brought due number value
-carries-number due number Spoilt = spoilt
+carries-number : (due : Due) (number : ℕ) (n : Option ℕ) → Carries number (with_number due number n)
+carries-number due number (Some value) = carries_brought due number value
+carries-number due number None = spoilt
 
 carries_opened : (number : ℕ) (line : List ℕ) → Carries number (opens number line)
 unfolding opens
 carries_opened number line =
-    either (starts_with comment_sign line) (whole (Whole Comment) refl)
-    (either (is_line op_add line) (whole (Part HostAdded) refl)
-    (either (is_line op_drop line) (whole (Part HostDropped) refl)
-    (either (is_line op_rate line) (whole (Part HostRerated) refl)
-    (either (is_line op_find line) (whole (Part Key) refl) spoilt))))
+    either (starts_with comment_sign line) (whole (Ok (Whole Comment)) refl)
+    (either (is_line op_add line) (whole (Ok (Part HostAdded)) refl)
+    (either (is_line op_drop line) (whole (Ok (Part HostDropped)) refl)
+    (either (is_line op_rate line) (whole (Ok (Part HostRerated)) refl)
+    (either (is_line op_find line) (whole (Ok (Part Key)) refl) spoilt))))
 
 carries-keyed : (number : ℕ) (line : List ℕ) → Carries number (keyed number line)
 unfolding keyed
-carries-keyed number line = either (starts_with key_name line) (whole (Whole Find) refl) spoilt
+carries-keyed number line = either (starts_with key_name line) (whole (Ok (Whole Find)) refl) spoilt
 
 carries_due : (due : Due) (number : ℕ) (line : List ℕ) → Carries number (read_due due number line)
 carries_due Slots number line = carries-number Slots number (field_of slots_name line)
@@ -142,11 +142,9 @@ pub malformed_carries : MalformedCarries
 malformed_carries due number line e = (ap line_of ((carries_line due number line).is e), ap records_of ((carries_line due number line).is e))
 
 -- what is not malformed, case by case
-others : (read : Read) → answer_of read ≢ 13 → (answer_of read ≡ 0) × (line_of read ≡ 0)
-others (Count value) n = (refl, refl)
-others (Part due) n = (refl, refl)
-others (Whole whole) n = (refl, refl)
-others (Malformed line) n = absurd (n refl)
+others : (read : Result Read Malformed) → answer_of read ≢ 13 → (answer_of read ≡ 0) × (line_of read ≡ 0)
+others (Ok read) n = (refl, refl)
+others (Err at_line) n = absurd (n refl)
 
 pub others_carry : OthersCarry
 others_carry due number line n = others (read_line due number line) n

@@ -1,54 +1,47 @@
--- Laws of a line's start: a name compared byte for byte, and what stands behind it.
+-- Laws of a line's start: a name compared byte for byte, and a line compared with a text, as std compares them.
 -- Assumes nothing.
-use mathlib.Core.Path.{◌≡◌, refl, sym, ◌∙◌}
-use mathlib.Core.Bool.{true, false, ◌&&◌, true≢false}
+use mathlib.Core.Path.{◌≡◌, refl, sym, ap, ◌∙◌}
+use mathlib.Core.Bool.{Bool}
 use mathlib.Core.List.{List, [], ◌∷◌}
-use Prim.Native.Nat.{ℕ, ◌+◌, ◌-◌, ◌≤◌, ◌<◌}
-use native.Mathlib.Nat.{not-suc-le-zero, le_of_suc-le-suc}
-use native.Mathlib.Numerals.{add-one}
+use Prim.Native.Nat.{ℕ, suc}
 use native.Mathlib.Omega.{arith}
-use borrow.Author.Tests.{eq-eqb, ne_eqb}
+use borrow.Author.Tests.{eq-eqb, ne_eqb, eqb-true}
 use lib.Dec.{eqb}
-use lib.ListN.{length, take, drop, length-drop, drop_of_length-le}
-use lib.Seq.{drop-cons, take_all}
-use Rattle.base.specs.Tables.{at}
-use Rattle.base.proofs.Tests.{and_right, by_test}
-use Rattle.lines.specs.Lines.{starts_with}
+use lib.ListN.{length, take}
+use lib.Pointwise.{pointwise}
+use Rattle.base.proofs.Tests.{by_test, same_test}
+use Rattle.lines.specs.Lines.{starts_with, is_line}
 
-pub starts_short : (name line : List ℕ) → length line < length name → starts_with name line ≡ false
+eqb_turned : (a b : ℕ) → eqb a b ≡ eqb b a
+eqb_turned a b = same_test (eqb a b) (eqb b a) (λ e. eq-eqb b a (sym (eqb-true a b e))) (λ e. eq-eqb a b (sym (eqb-true b a e)))
+
+suc_same : (a b : ℕ) → eqb (suc a) (suc b) ≡ eqb a b
+suc_same a b = same_test (eqb (suc a) (suc b)) (eqb a b) (λ e. eq-eqb a b (let same = eqb-true (suc a) (suc b) e in omega arith)) (λ e. eq-eqb (suc a) (suc b) (ap suc (eqb-true a b e)))
+
+-- a line starts with a name, with either text first
+starts_is : (name line : List ℕ) → pointwise eqb name (take (length name) line) ≡ starts_with name line
 unfolding starts_with
-starts_short [] line l = absurd (not-suc-le-zero l)
-starts_short (byte ∷ name) [] l = refl
-starts_short (byte ∷ name) (other ∷ line) l =
-    by_test (eqb byte other)
-    (λ e. rw e (starts_short name line (le_of_suc-le-suc l)))
-    (λ e. rw e)
+starts_is [] line = refl
+starts_is (byte ∷ name) [] = refl
+starts_is (byte ∷ name) (other ∷ line) = rw (starts_is name line)
 
--- a line that starts with a name is no shorter
-pub starts_length : (name line : List ℕ) → starts_with name line ≡ true → length name ≤ length line
+pub starts_cut : (name line : List ℕ) → pointwise eqb (take (length name) line) name ≡ starts_with name line
 unfolding starts_with
-starts_length [] line s = omega arith
-starts_length (byte ∷ name) [] s = absurd (true≢false (sym s))
-starts_length (byte ∷ name) (other ∷ line) s =
-    let tail : length name ≤ length line = starts_length name line (and_right (eqb byte other) _ s) in
-    omega arith
+starts_cut [] line = refl
+starts_cut (byte ∷ name) [] = refl
+starts_cut (byte ∷ name) (other ∷ line) = rw (eqb_turned other byte, starts_cut name line)
 
--- the part of a line that starts at a place, as the code cuts it
-pub part_from : (line : List ℕ) (n : ℕ) → take (length line - n) (drop n line) ≡ drop n line
-part_from line n = take_all (length line - n) (drop n line) (omega (arith, length-drop n line))
+-- a line is a text
+line_is : (text line : List ℕ) → pointwise eqb line text ≡ is_line text line
+unfolding starts_with is_line
+line_is [] [] = refl
+line_is [] (byte ∷ line) = rw (ne_eqb (length (byte ∷ line)) 0 (λ e. absurd (omega arith)))
+line_is (byte ∷ text) [] = refl
+line_is (byte ∷ text) (other ∷ line) = by_test (eqb byte other) (λ e. rw (eqb_turned other byte, e) (line_is text line ∙ rw (suc_same (length line) (length text)))) (λ e. rw (eqb_turned other byte, e))
 
--- one byte after the other
-module _ (name line : List ℕ) (i : ℕ) (l : i < length name) (m : i < length line) where
-  starts_split : starts_with (drop i name) (drop i line) ≡ (eqb (at name i) (at line i) && starts_with (drop (i + 1) name) (drop (i + 1) line))
-  unfolding starts_with
-  starts_split = rw (add-one i, drop-cons name i 0 l, drop-cons line i 0 m)
+-- what std answers to the two tests
+pub begins : (name line : List ℕ) {r : Bool} → r ≡ pointwise eqb name (take (length name) line) → r ≡ starts_with name line
+begins name line e = e ∙ starts_is name line
 
-  pub starts_next : at name i ≡ at line i → starts_with (drop (i + 1) name) (drop (i + 1) line) ≡ starts_with (drop i name) (drop i line)
-  starts_next e = sym (starts_split ∙ rw (eq-eqb _ _ e))
-
-  pub starts_differs : (at name i ≡ at line i → ⊥) → starts_with (drop i name) (drop i line) ≡ false
-  starts_differs n = starts_split ∙ rw (ne_eqb _ _ n)
-
-pub starts_done : (name line : List ℕ) (i : ℕ) → length name ≤ i → starts_with (drop i name) (drop i line) ≡ true
-unfolding starts_with
-starts_done name line i l = rw (drop_of_length-le name l)
+pub equals : (text line : List ℕ) {slice : List ℕ} {r : Bool} → slice ≡ text → r ≡ pointwise eqb line slice → r ≡ is_line text line
+equals text line same e = e ∙ ap (pointwise eqb line) same ∙ line_is text line

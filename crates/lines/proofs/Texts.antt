@@ -14,8 +14,8 @@ use lib.Seq.{drop-cons}
 use Rattle.base.specs.Tables.{at}
 use Rattle.base.specs.Sizes.{between}
 use Rattle.base.proofs.Tests.{and_left, and_right}
-use Rattle.lines.specs.declared.Number.TheVariants.{Is, Spoilt}
-use Rattle.lines.specs.Numbers.{is_digit, all_digits, well_sized, is_number, with_digit, value_from, number_of, fits_one_more}
+use Rattle.std.specs.Prelude.{Some, None}
+use Rattle.lines.specs.Numbers.{is_digit, all_digits, well_sized, is_number, with_digit, value_from, number_of}
 
 -- what is known before place i of a text, with the value of the digits so far
 pub record Reading (text : List ℕ) (value i : ℕ) : Type 0 where
@@ -58,26 +58,27 @@ module _ (text : List ℕ) (value i : ℕ) (r : Reading text value i) (l : i < l
   pub reading_next : Reading text (with_digit value (at text i)) (i + 1)
   reading_next = record { within = omega arith; digits = next_digits; says = next_says; small = next_small }
 
-  pub one_more : well_sized text ≡ true → fits_one_more value (at text i)
+  -- behind at most eight others, which keeps a digit more within a word
+  pub one_more : well_sized text ≡ true → value < 100000000
   one_more s =
       let few : i ≤ 8 = omega (arith, sized_nine text s) in
       let eight : 10 ^ i ≤ 10 ^ 8 = pow-le-pow_right (omega arith) few in
       let before = r.small in
-      (omega arith, digit_low (at text i) d, digit_high (at text i) d)
+      omega arith
 
 -- what is answered ---------------------------------------------------------------------
 
-pub number_unsized : (text : List ℕ) → well_sized text ≡ false → number_of text ≡ Spoilt
+pub number_unsized : (text : List ℕ) → well_sized text ≡ false → number_of text ≡ None
 unfolding number_of is_number
 number_unsized text s = rw s
 
-pub number_spoilt : (text : List ℕ) (value i : ℕ) → Reading text value i → i < length text → is_digit (at text i) ≡ false → number_of text ≡ Spoilt
+pub number_spoilt : (text : List ℕ) (value i : ℕ) → Reading text value i → i < length text → is_digit (at text i) ≡ false → number_of text ≡ None
 unfolding number_of is_number all_digits
 number_spoilt text value i r l d =
     let none : all_digits text ≡ false = sym r.digits ∙ ap all_digits (drop-cons text i 0 l) ∙ rw d in
     rw (none, and-false (well_sized text))
 
-pub number_read : (text : List ℕ) (value i : ℕ) → Reading text value i → length text ≤ i → well_sized text ≡ true → number_of text ≡ Is value
+pub number_read : (text : List ℕ) (value i : ℕ) → Reading text value i → length text ≤ i → well_sized text ≡ true → number_of text ≡ Some value
 unfolding number_of is_number all_digits value_from
 number_read text value i r l s =
     let all : all_digits text ≡ true = sym r.digits ∙ ap all_digits (drop_of_length-le text l) in

@@ -1,10 +1,8 @@
 -- Numbers as text (document 01, The program's lines, sentence 7): which texts are numbers, and what each says.
 -- Assumes nothing.
-use Rattle.std.specs.Prelude.{Bool, true, ◌&&◌, ◌||◌, not, cond, List, [], ◌∷◌, ℕ, ◌+◌, ◌-◌, ◌*◌, ◌<◌, ◌≤◌, eqb, length}
+use Rattle.std.specs.Prelude.{Bool, true, ◌&&◌, ◌||◌, not, cond, Option, Some, None, List, [], ◌∷◌, ℕ, ◌+◌, ◌-◌, ◌*◌, eqb, length}
 use Rattle.base.specs.Tables.{at}
 use Rattle.base.specs.Sizes.{between}
-use Rattle.lines.specs.declared.Number.{Number}
-use Rattle.lines.specs.declared.Number.TheVariants.{Is, Spoilt}
 
 -- `0` to `9`
 abbrev pub is_digit : ℕ → Bool
@@ -32,18 +30,14 @@ value_from value [] = value
 value_from value (byte ∷ text) = value_from (with_digit value byte) text
 
 -- what a text says
-unfoldable pub number_of : List ℕ → Number
-number_of text = cond (is_number text) (Is (value_from 0 text)) Spoilt
+unfoldable pub number_of : List ℕ → Option ℕ
+number_of text = cond (is_number text) (Some (value_from 0 text)) None
 
 -- the paper's number and the value of each case: 0 with the number, 13 with none
-abbrev pub answer_of : Number → ℕ
-answer_of (Is value) = 0
-answer_of Spoilt = 13
+abbrev pub answer_of : Option ℕ → ℕ
+answer_of (Some value) = 0
+answer_of None = 13
 
-abbrev pub value_of : Number → ℕ
-value_of (Is value) = value
-value_of Spoilt = 0
-
--- what keeps a digit more within a word: a digit, behind at most eight others
-abbrev pub fits_one_more : ℕ → ℕ → Type 0
-fits_one_more value byte = (value < 100000000) × (48 ≤ byte) × (byte ≤ 57)
+abbrev pub value_of : Option ℕ → ℕ
+value_of (Some value) = value
+value_of None = 0

@@ -3,7 +3,7 @@
 use mathlib.Core.Path.{◌≡◌, sym, ◌∙◌}
 use mathlib.Core.Bool.{true}
 use Prim.Native.Nat.{ℕ, zero, suc, ◌*◌, ◌/◌, ◌≤◌, ◌<◌, min, zero-le}
-use native.Mathlib.Nat.{mul-le-mul_left, mul-le-mul_right, le_trans, le-div_iff_mul-le, le_of_mul-le-mul_right}
+use native.Mathlib.Nat.{mul-le-mul_left, mul-le-mul_right, le_trans, le-div_iff_mul-le, mul-pos, le_of_mul-le-mul_right}
 use native.Mathlib.Omega.{arith}
 use lib.Dec.{leb, ltb}
 use borrow.Author.Tests.{le-leb, leb-true, lt-ltb, ltb-true}
@@ -28,9 +28,10 @@ module _ (load slots all rate : ℕ) where
   keeps_less less held h t = le-leb _ _ (le_trans (mul-le-mul_right all (mul-le-mul_right held h)) (leb-true _ _ t))
 
   -- the most of the slots, by division
-  pub most_is : 0 < load * all → most_kept load slots all rate ≡ min slots (1000 * rate * slots / (load * all))
+  pub most_is : 0 < load → 0 < all → most_kept load slots all rate ≡ min slots (1000 * rate * slots / (load * all))
   unfolding most_kept keeps_up
-  most_is p =
+  most_is l a =
+      let p : 0 < load * all = mul-pos l a in
       count_ext slots _ (λ s. ltb s (1000 * rate * slots / (load * all))) (λ s _. same_test (leb (load * suc s * all) (1000 * rate * slots)) _
       (λ t. let h : load * suc s * all ≤ 1000 * rate * slots = leb-true _ _ t in
       let g : suc s * (load * all) ≤ 1000 * rate * slots = omega arith in

@@ -1,23 +1,25 @@
 -- The reply of the load question: what it is at each row, and the laws of it.
 -- Assumes nothing.
 use mathlib.Core.Path.{◌≡◌, refl, sym, ap, ◌∙◌}
-use mathlib.Core.Bool.{true, false}
+use mathlib.Core.Bool.{Bool, true, false}
 use mathlib.Core.Logic.{◌≢◌}
 use Prim.Native.Nat.{ℕ, suc, ◌≤◌}
 use native.Mathlib.Nat.{le_trans}
 use native.Mathlib.Omega.{arith}
 use lib.Dec.{eqb}
 use borrow.Author.Tests.{eq-eqb, ne_eqb, eqb-true, le-leb}
+use Rattle.std.specs.Prelude.{Result}
 use Rattle.base.specs.Sizes.{slots_fit}
 use Rattle.base.specs.Rows.{lowest, rises_from}
+use Rattle.base.specs.declared.Refusal.{Refusal}
 use Rattle.base.proofs.Tests.{by_test, and_left, and_right, and_both}
+use Rattle.base.proofs.Refusals.{told_once}
 use Rattle.base.proofs.Entries.{length-table}
 use Rattle.quota.proofs.Laws.{sum_is_slots}
 use Rattle.roster.specs.declared.Roster.{Roster}
 use Rattle.roster.specs.Roster.{rates_of, valid}
-use Rattle.load.specs.declared.Carried.{Carried}
 use Rattle.load.specs.Load.{carries_all}
-use Rattle.load.specs.Reply.{load_fits, answer_of, carried, refusal}
+use Rattle.load.specs.Reply.{Carried, load_fits, answer_of, carried, refusal, told}
 use Rattle.load.specs.Laws.{RowsRise, AnsweredIsDivision, RefusedIsNo, LessIsCarried, QuotasKeepUp, LoadFixed}
 use Rattle.load.proofs.Shares.{carries_is_division, less_carried, quotas_keep}
 use Rattle.load.proofs.Ranges.{to_last, rates_positive, some_rates}
@@ -45,6 +47,9 @@ module _ (r : Roster) (slots load : ℕ) where
         pub carried-done : load_fits load ≡ true → carried r slots load ≡ record { answer = 0; carries = carries_all load slots (rates_of r) }
         unfolding carried answer_of lowest
         carried-done t = rw (sizes, right, ne_eqb _ _ some, t)
+
+-- the whole reply at each row, for the proof of `carries`
+pub ruleset reply_rows = (carried-slots, carried_roster, carried_none, carried_load, carried-done)
 
 pub rows-rise : RowsRise
 unfolding rises_from
@@ -103,5 +108,9 @@ pub refused_is_no : RefusedIsNo
 unfolding carried
 refused_is_no r slots load ne = rw (ne_eqb _ _ ne)
 
+-- results that tell the same reply are the same
+once : (x y : Result Bool Refusal) → told x ≡ told y → x ≡ y
+once = told_once told (λ c. c.answer) (λ yes. refl) (λ reason. refl) (λ a b h. ap (λ c. c.carries) h)
+
 pub load_fixed : LoadFixed
-load_fixed r slots load x y a b = a ∙ sym b
+load_fixed r slots load x y a b = once x y (a ∙ sym b)

@@ -1,14 +1,14 @@
 -- What the load question promises, as statements; the function `promises` holds them all.
 -- Assumes nothing.
-use Rattle.std.specs.Prelude.{◌≡◌, true, false, ◌↔◌, ◌≢◌, List, ℕ, ◌≤◌, ◌<◌}
+use Rattle.std.specs.Prelude.{◌≡◌, Bool, Result, true, false, ◌↔◌, ◌≢◌, List, ℕ, ◌≤◌, ◌<◌}
 use Rattle.base.specs.Rows.{rises_from}
+use Rattle.base.specs.declared.Refusal.{Refusal}
 use Rattle.quota.specs.Quota.{quotas}
 use Rattle.quota.specs.Laws.{Division}
 use Rattle.roster.specs.declared.Roster.{Roster}
 use Rattle.roster.specs.Roster.{rates_of}
-use Rattle.load.specs.declared.Carried.{Carried}
 use Rattle.load.specs.Load.{AllKeepUp, Carries, carries_all}
-use Rattle.load.specs.Reply.{rows, carried}
+use Rattle.load.specs.Reply.{rows, carried, told}
 
 -- the test says yes exactly when some division of the slots lets every host keep up
 abbrev pub CarriesIsDivision : Type 0
@@ -37,6 +37,6 @@ QuotasKeepUp =
     (r : Roster) (slots load : ℕ) → (carried r slots load).carries ≡ true →
     Division (rates_of r) slots (quotas (rates_of r) slots) × AllKeepUp load slots (rates_of r) (quotas (rates_of r) slots)
 
--- two replies that meet the contract are equal
+-- two results that meet the contract are equal
 abbrev pub LoadFixed : Type 0
-LoadFixed = (r : Roster) (slots load : ℕ) (x y : Carried) → x ≡ carried r slots load → y ≡ carried r slots load → x ≡ y
+LoadFixed = (r : Roster) (slots load : ℕ) (x y : Result Bool Refusal) → told x ≡ carried r slots load → told y ≡ carried r slots load → x ≡ y

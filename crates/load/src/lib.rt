@@ -1,100 +1,87 @@
 // The load question: can the hosts of a roster carry a load, in some division of the slots among them.
 #![tactic(auto)]
 
-ghost use Rattle.std.specs.Prelude.{◌≡◌, ℕ, ◌<◌, ◌≤◌, length};
-ghost use Rattle.base.specs.Tables.{at, total};
-ghost use Rattle.load.specs.Load.{most_kept, carries_all};
-ghost use Rattle.load.specs.Reply.{load_fits, carried, refusal};
+ghost use Rattle.std.specs.Prelude.{◌≡◌, ◌<◌, ◌≤◌, length, sum_by};
+ghost use Rattle.base.specs.Tables.{total};
+ghost use Rattle.load.specs.Load.{most_kept};
+ghost use Rattle.load.specs.Reply.{load_fits, carried, told};
 ghost use Rattle.load.specs.Laws.{RowsRise, CarriesIsDivision, LessIsCarried, QuotasKeepUp, AnsweredIsDivision, RefusedIsNo, LoadFixed};
 
-use roster::Roster;
-
-// The reply: the answer, and with 0 whether the load is carried.
-#[derive(Clone, Copy)]
-pub struct Carried {
-    pub answer: u32,
-    pub carries: bool,
-}
+use base::Refusal;
+use roster::{Roster, ValidRoster};
 
 // Whether a load is one that may be asked about.
 fn load_fits(load: u32) -> bool
     ensures { result ≡ load_fits load }
 {
-    1 <= load && load <= 1_000
+    (1..=1_000).contains(&load)
+}
+
+// A load that is asked about, of so many slots over hosts whose rates sum to `all`: its numbers are small enough for every product below.
+#[derive(Clone, Copy)]
+struct Question {
+    load: u32,
+    slots: u32,
+    all: u64,
+    ghost load_in_range: { (0 < load) × (load ≤ 1000) },
+    ghost slots_in_range: { slots ≤ 16384 },
+    ghost all_in_range: { (0 < all) × (all ≤ 256000000) },
+}
+
+impl Question {
+    // The most of the slots that a host could hold and keep up. The code's one place for the rule of keeping up.
+    #[tactic(auto, using(crate::proofs::Keeping::most_is))]
+    fn most_kept(&self, rate: u32) -> u32
+        ensures { result ≡ most_kept self.now.load self.now.slots self.now.all rate }
+    {
+        let slots = u64::from(self.slots);
+        let most = 1_000 * u64::from(rate) * slots / (u64::from(self.load) * self.all);
+        slots.min(most) as u32
+    }
+
+    // The most that the hosts could hold together and keep up.
+    fn most_held(&self, rates: &[u32]) -> u64
+        requires { length rates.now ≤ 256 }
+        ensures { result ≡ sum_by (most_kept self.now.load self.now.slots self.now.all) rates.now }
+    {
+        rates
+            .iter()
+            .map(|rate| u64::from(self.most_kept(*rate)))
+            .sum()
+    }
 }
 
 // The sum of the rates.
+#[tactic(auto, using(crate::proofs::Totals::place_by_place))]
 fn rate_sum(rates: &[u32]) -> u64
-    requires { (length rates.now ≤ 256) × ((i : ℕ) → i < length rates.now → at rates.now i ≤ 1000000) }
+    requires { length rates.now ≤ 256 }
     ensures { result ≡ total rates.now }
 {
-    let mut all = 0;
-    let mut i = 0;
-    while i < rates.len() {
-        all += rates[i] as u64;
-        i += 1;
-    }
-    all
-}
-
-// The most of the slots that a host could hold and keep up. The code's one place for the rule of keeping up.
-fn most_kept(load: u32, slots: u32, all: u64, rate: u32) -> u32
-    requires { (0 < load) × (load ≤ 1000) × (slots ≤ 16384) × (rate ≤ 1000000) × (0 < all) × (all ≤ 256000000) }
-    ensures { result ≡ most_kept load slots all rate }
-{
-    let most = 1_000 * rate as u64 * slots as u64 / (load as u64 * all);
-    if slots as u64 <= most {
-        return slots;
-    }
-    most as u32
-}
-
-// Whether the hosts could hold all slots and keep up.
-fn carries_all(load: u32, slots: u32, rates: &[u32]) -> bool
-    requires asked { (0 < load) × (load ≤ 1000) × (slots ≤ 16384) }
-    requires hosts { (length rates.now ≤ 256) × (0 < total rates.now) × ((i : ℕ) → i < length rates.now → at rates.now i ≤ 1000000) }
-    ensures { result ≡ carries_all load slots rates.now }
-{
-    let all = rate_sum(rates);
-    let mut most = 0;
-    let mut i = 0;
-    while i < rates.len() {
-        most += most_kept(load, slots, all, rates[i]);
-        i += 1;
-    }
-    slots <= most
-}
-
-// A refusal.
-fn refused(number: u32) -> Carried
-    ensures { result ≡ refusal number }
-{
-    Carried {
-        answer: number,
-        carries: false,
-    }
+    rates.iter().map(|rate| u64::from(*rate)).sum()
 }
 
 // Whether the hosts of a roster carry a load of so many thousandths of their rates, with so many slots.
-pub fn carries(r: Roster, slots: u32, load: u32) -> Carried
-    ensures { result ≡ carried r slots load }
+#[tactic(auto, using(crate::proofs::Replies::reply_rows))]
+pub fn carries(r: Roster, slots: u32, load: u32) -> Result<bool, Refusal>
+    ensures { told result ≡ carried r slots load }
 {
     if !base::slots_fit(slots) {
-        return refused(1);
+        return Err(Refusal::SlotCount);
     }
-    if !roster::valid(r) {
-        return refused(2);
-    }
-    let n = r.count;
-    if n == 0 {
-        return refused(10);
+    let roster = ValidRoster::try_from(r)?;
+    if r.count == 0 {
+        return Err(Refusal::NoOwner);
     }
     if !load_fits(load) {
-        return refused(11);
+        return Err(Refusal::Load);
     }
-    let rates = r.rates;
-    let carries = carries_all(load, slots, &rates[..n]);
-    Carried { answer: 0, carries }
+    let rates = roster.rates();
+    let asked = Question {
+        load,
+        slots,
+        all: rate_sum(rates),
+    };
+    Ok(u64::from(slots) <= asked.most_held(rates))
 }
 
 // The laws of the load question: without their proofs this function is not proved.

@@ -6,19 +6,19 @@ use mathlib.Core.List.{List, [], ◌∷◌, ◌++◌, append-nil, append_assoc}
 use Prim.Native.Nat.{ℕ, zero, suc, ◌+◌, ◌-◌, ◌/◌, ◌%◌, ◌^◌, ◌≤◌, ◌<◌}
 use native.Mathlib.Nat.{pow-suc, pow-le-pow_right, mod-eq_of_lt, le-div_iff_mul-le, one-le-pow, mod-lt}
 use native.Mathlib.Omega.{arith, by_contra}
-use borrow.Author.Tests.{lt-ltb, ltb-true, leb-true, le-leb}
+use borrow.Author.Tests.{lt-ltb, ltb-true, leb-true, le-leb, lt-leb}
 use lib.Dec.{ltb, leb}
-use denote.Enum.Declared.{tag_of}
 use lib.ListN.{length, take, drop, length-append, length-drop, take-append-drop}
+use borrow.Rule.Slice.PartMut.{put_mid}
 use lib.Seq.{paste, length-take-le, take_at, drop_at, drop-drop, take-length}
 use Rattle.base.proofs.Tests.{by_test, same_test}
+use Rattle.std.proofs.lemmas.Slice.{put_mid-paste}
 use Rattle.io.specs.Digits.{last_digits, hex_digit_ascii, IsDigitCount}
 use Rattle.stream.specs.declared.Said.{Said}
 use Rattle.stream.specs.declared.Said.TheVariants.{Nothing, Moved, Owner, Wrong}
-use Rattle.stream.specs.contracts.Said as saids
 use Rattle.stream.specs.Text.{decimal_within, decimal, answer_name, moved_name, slot_name, host_name, line_name, printed_line, text_of}
 use Rattle.stream.proofs.Texts.{length-decimal, tenth_below}
-use Rattle.printing.specs.Wrote.{wrote, room_for, said_at, place_after}
+use Rattle.printing.specs.Wrote.{wrote, room_for}
 use Rattle.printing.specs.Laws.{SaidFixed}
 
 -- a text behind another ---------------------------------------------------------------------
@@ -42,10 +42,14 @@ wrote-behind out place a b l =
     sym (drop-drop (length b) (place + length a) whole) ∙ ap (drop (length b)) tail ∙ drop-drop (length b) (place + length a) out ∙ ap (λ n. drop n out) sum in
     rw (front, back) (ap (λ x. x ++ drop (place + length (a ++ b)) out) (append_assoc (take place out) a b))
 
--- what a loop has put so far is a paste; at the end it is the text
+-- a text pasted whole is a text put there
 pub wrote_pasted : (out : List ℕ) (place : ℕ) (text : List ℕ) → paste out place text (length text) ≡ wrote out place text
 unfolding wrote
 wrote_pasted out place text = rw (take-length text)
+
+-- and so is one that was copied over the part
+pub wrote_copied : (out : List ℕ) (place : ℕ) (text part : List ℕ) → part ≡ text → put_mid place (place + length text - place) out part ≡ wrote out place text
+wrote_copied out place text part e = put_mid-paste place (place + length text - place) out part text (length text) e (omega arith) refl ∙ wrote_pasted out place text
 
 -- decimal -----------------------------------------------------------------------------------
 
@@ -96,33 +100,9 @@ decimal-text n (suc k) l f = decimal_digits 19 k n (let most = fewest_twenty n (
 
 -- a printed line ------------------------------------------------------------------------------
 
-pub line_wrote : (out name : List ℕ) (place value number end : ℕ) (one two three : List ℕ) → place + length name + 21 ≤ length out
-    → number ≡ place + length name → one ≡ wrote out place name → end ≡ number + length (decimal value) → two ≡ wrote one number (decimal value)
-    → three ≡ wrote two end (10 ∷ []) → three ≡ wrote out place (printed_line name value)
-unfolding printed_line
-line_wrote out name place value number end one two three l n o e t h =
-    let most = length-decimal 19 value in
-    let both = length-append name (decimal value) in
-    let first : two ≡ wrote out place (name ++ decimal value) =
-    t ∙ ap (λ x. wrote x number (decimal value)) o ∙ ap (λ k. wrote (wrote out place name) k (decimal value)) n ∙ wrote-behind out place name (decimal value) (omega arith) in
-    let behind : end ≡ place + length (name ++ decimal value) = omega arith in
-    h ∙ ap (λ x. wrote x end (10 ∷ [])) first ∙ ap (λ k. wrote (wrote out place (name ++ decimal value)) k (10 ∷ [])) behind ∙ wrote-behind out place (name ++ decimal value) (10 ∷ []) (omega arith)
-
-pub line_place : (name : List ℕ) (place value number end r : ℕ) → number ≡ place + length name → end ≡ number + length (decimal value) → r ≡ end + 1 → r ≡ place + length (printed_line name value)
-unfolding printed_line
-line_place name place value number end r n e h = omega (arith, length-append name (decimal value), length-append (name ++ decimal value) (10 ∷ []))
-
 pub length_line : (name : List ℕ) (value : ℕ) → length (printed_line name value) ≤ length name + 21
 unfolding printed_line
 length_line name value = let most = length-decimal 19 value in omega (arith, length-append name (decimal value), length-append (name ++ decimal value) (10 ∷ []))
-
--- two texts, one behind the other
-pub two_wrote : (out a b : List ℕ) (place next : ℕ) (one two : List ℕ) → place + length a ≤ length out
-    → next ≡ place + length a → one ≡ wrote out place a → two ≡ wrote one next b → two ≡ wrote out place (a ++ b)
-two_wrote out a b place next one two l n o t = t ∙ ap (λ x. wrote x next b) o ∙ ap (λ k. wrote (wrote out place a) k b) n ∙ wrote-behind out place a b l
-
-pub two_place : (a b : List ℕ) (place next r : ℕ) → next ≡ place + length a → r ≡ next + length b → r ≡ place + length (a ++ b)
-two_place a b place next r n h = omega (arith, length-append a b)
 
 -- nothing said
 pub wrote_nothing : (out : List ℕ) (place : ℕ) → wrote out place [] ≡ out
@@ -133,6 +113,7 @@ pub room_is : (size place : ℕ) → room_for size place ≡ true → place + 84
 unfolding room_for
 room_is size place r = leb-true _ _ r
 
+-- the test in two steps, since a place may be near the largest number
 pub room_tested : (size place : ℕ) → 84 ≤ size → leb place (size - 84) ≡ room_for size place
 unfolding room_for
 room_tested size place l =
@@ -140,12 +121,9 @@ room_tested size place l =
     (λ t. let low = leb-true place (size - 84) t in le-leb (place + 84) size (omega arith))
     (λ t. let low = leb-true (place + 84) size t in le-leb place (size - 84) (omega arith))
 
--- nothing is said, by the place of its case
-pub is_nothing : (said : Said) → tag_of saids.the_type said ≡ 0 → said ≡ Nothing
-is_nothing Nothing e = refl
-is_nothing (Moved answer moved) e = absurd (omega arith)
-is_nothing (Owner answer slot host) e = absurd (omega arith)
-is_nothing (Wrong line) e = absurd (omega arith)
+pub no_room : (size place : ℕ) → size < 84 → leb 84 size ≡ room_for size place
+unfolding room_for
+no_room size place l = lt-leb 84 size l ∙ sym (lt-leb (place + 84) size (omega arith))
 
 -- no text is longer than the room asked for
 pub length-text : (said : Said) → length (text_of said) ≤ 84
@@ -154,13 +132,6 @@ length-text (Moved answer moved) = omega (arith, length-append (printed_line ans
 length-text (Owner answer slot host) =
     omega (arith, length-append (printed_line answer_name answer ++ printed_line slot_name slot) (printed_line host_name host), length-append (printed_line answer_name answer) (printed_line slot_name slot), length_line answer_name answer, length_line slot_name slot, length_line host_name host)
 length-text (Wrong line) = omega (arith, length-append (printed_line answer_name 13) (printed_line line_name line), length_line answer_name 13, length_line line_name line)
-
--- one case of what is said
-pub said_place : (said is : Said) (size place r : ℕ) → room_for size place ≡ true → said ≡ is → r ≡ place + length (text_of is) → r ≡ place_after said size place
-said_place said is size place r f e h = rw (f, e) h
-
-pub said_bytes : (said is : Said) (out : List ℕ) (place : ℕ) (after : List ℕ) → room_for (length out) place ≡ true → said ≡ is → after ≡ wrote out place (text_of is) → after ≡ said_at said out place
-said_bytes said is out place after f e h = rw (f, e) h
 
 -- one place and one output ----------------------------------------------------------------------
 

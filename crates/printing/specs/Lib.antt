@@ -1,2 +1,3 @@
 pub mod Wrote
+pub mod Sheet
 pub mod Laws

@@ -3,86 +3,81 @@
 
 ghost use Rattle.std.specs.Prelude.{◌≡◌, ◌+◌, ◌≤◌, length};
 ghost use Rattle.stream.specs.Text.{decimal, printed_line, text_of};
-ghost use Rattle.printing.specs.Wrote.{wrote, room_for, place_after, said_at};
+ghost use Rattle.printing.specs.Wrote.{room_for, place_after, said_at};
+ghost use Rattle.printing.specs.Sheet.{Put};
 ghost use Rattle.printing.specs.Laws.{SaidFixed};
 
 use stream::Said;
 
-// Puts a text into the output at a place, and answers the place behind it.
-fn put(out: &mut [u8], at: usize, text: &[u8]) -> usize
-    requires { at + length text.now ≤ length out.old }
-    ensures place { result ≡ at + length text.now }
-    ensures bytes { out.new ≡ wrote out.old at text.now }
-{
-    let mut i = 0;
-    while i < text.len() {
-        out[at + i] = text[i];
-        i += 1;
+// A lent output, and the place behind what was put into it.
+// Put by hand: of `write!` and `Display` the library promises the text only where it is `Ok`, and never that it is, and `put_said` cannot fail.
+#[derive(Drop)]
+struct Sheet<'a> {
+    out: &'a mut [u8],
+    at: usize,
+}
+
+impl Sheet<'_> {
+    // Puts a text.
+    fn put(&mut self, text: &[u8])
+        requires { self.old.at + length text.now ≤ length self.old.out.now }
+        ensures { Put self.old self.new text.now }
+    {
+        let end = self.at + text.len();
+        self.out[self.at..end].copy_from_slice(text);
+        self.at = end;
     }
-    at + i
+
+    // Puts a number in decimal.
+    fn put_decimal(&mut self, value: u64)
+        requires { self.old.at + 20 ≤ length self.old.out.now }
+        ensures { Put self.old self.new (decimal value) }
+    {
+        let mut digits = [0; 20];
+        let k = io::decimal(value, &mut digits);
+        self.put(&digits[..k]);
+    }
+
+    // Puts a printed line: a name with its equals sign, a number and byte 10.
+    fn put_line(&mut self, name: &[u8], value: u64)
+        requires { self.old.at + length name.now + 21 ≤ length self.old.out.now }
+        ensures { Put self.old self.new (printed_line name.now value) }
+    {
+        self.put(name);
+        self.put_decimal(value);
+        self.put(b"\n");
+    }
+
+    // Puts the lines of what a stream says.
+    #[tactic(auto, using(crate::proofs::Texts::length_line))]
+    fn put_said(&mut self, said: Said)
+        requires { self.old.at + 84 ≤ length self.old.out.now }
+        ensures { Put self.old self.new (text_of said) }
+    {
+        match said {
+            Said::Nothing => {}
+            Said::Moved { answer, moved } => {
+                self.put_line(b"answer=", answer as u64);
+                self.put_line(b"moved=", moved as u64);
+            }
+            Said::Owner { answer, slot, host } => {
+                self.put_line(b"answer=", answer as u64);
+                self.put_line(b"slot=", slot as u64);
+                self.put_line(b"host=", host as u64);
+            }
+            Said::Wrong { line } => {
+                self.put_line(b"answer=", 13);
+                self.put_line(b"line=", line);
+            }
+        }
+    }
 }
 
-// Puts a number in decimal.
-fn put_decimal(out: &mut [u8], at: usize, value: u64) -> usize
-    requires { at + 20 ≤ length out.old }
-    ensures place { result ≡ at + length (decimal value) }
-    ensures bytes { out.new ≡ wrote out.old at (decimal value) }
-{
-    let mut digits = [0u8; 20];
-    let k = io::decimal(value, &mut digits);
-    put(out, at, &digits[..k])
-}
-
-// Puts a printed line: a name with its equals sign, a number and byte 10.
-fn put_line(out: &mut [u8], at: usize, name: &[u8], value: u64) -> usize
-    requires { at + length name.now + 21 ≤ length out.old }
-    ensures place { result ≡ at + length (printed_line name.now value) }
-    ensures bytes { out.new ≡ wrote out.old at (printed_line name.now value) }
-{
-    let number = put(out, at, name);
-    let end = put_decimal(out, number, value);
-    put(out, end, b"\n")
-}
-
-// Puts what a change prints.
-fn put_moved(out: &mut [u8], at: usize, answer: u32, moved: u32) -> usize
-    requires { at + 84 ≤ length out.old }
-    ensures place { result ≡ at + length (text_of (Said.Moved answer moved)) }
-    ensures bytes { out.new ≡ wrote out.old at (text_of (Said.Moved answer moved)) }
-{
-    let next = put_line(out, at, b"answer=", answer as u64);
-    put_line(out, next, b"moved=", moved as u64)
-}
-
-// Puts what a malformed line prints.
-fn put_wrong(out: &mut [u8], at: usize, line: u64) -> usize
-    requires { at + 84 ≤ length out.old }
-    ensures place { result ≡ at + length (text_of (Said.Wrong line)) }
-    ensures bytes { out.new ≡ wrote out.old at (text_of (Said.Wrong line)) }
-{
-    let next = put_line(out, at, b"answer=", 13);
-    put_line(out, next, b"line=", line)
-}
-
-// Puts what a find prints.
-fn put_owner(out: &mut [u8], at: usize, answer: u32, slot: usize, host: u16) -> usize
-    requires { at + 84 ≤ length out.old }
-    ensures place { result ≡ at + length (text_of (Said.Owner answer slot host)) }
-    ensures bytes { out.new ≡ wrote out.old at (text_of (Said.Owner answer slot host)) }
-{
-    let second = put_line(out, at, b"answer=", answer as u64);
-    let third = put_line(out, second, b"slot=", slot as u64);
-    put_line(out, third, b"host=", host as u64)
-}
-
-// Whether the output has room for the longest text.
+// Whether the output has room for the longest text: 84 bytes.
 pub fn has_room(size: usize, at: usize) -> bool
     ensures { result ≡ room_for size at }
 {
-    if size < 84 {
-        return false;
-    }
-    at <= size - 84
+    size >= 84 && at <= size - 84
 }
 
 // Puts what a stream says, and answers the place behind it. Where the output has no room for the longest text it is left as it was.
@@ -93,12 +88,9 @@ pub fn put_said(said: Said, out: &mut [u8], at: usize) -> usize
     if !has_room(out.len(), at) {
         return at;
     }
-    match said {
-        Said::Nothing => at,
-        Said::Moved { answer, moved } => put_moved(out, at, answer, moved),
-        Said::Owner { answer, slot, host } => put_owner(out, at, answer, slot, host),
-        Said::Wrong { line } => put_wrong(out, at, line),
-    }
+    let mut sheet = Sheet { out, at };
+    sheet.put_said(said);
+    sheet.at
 }
 
 // The law of printing: without its proof this function is not proved.

@@ -2,7 +2,7 @@
 // The crate knows hosts by their place in a list of rates, and no roster.
 #![tactic(auto)]
 
-ghost use Rattle.std.specs.Prelude.{◌≡◌, true, suc, ◌+◌, ◌*◌, ◌<◌, ◌≤◌, ltb, length, replicate};
+ghost use Rattle.std.specs.Prelude.{◌≡◌, suc, ◌+◌, ◌*◌, ◌<◌, ◌≤◌, ltb, length};
 ghost use Rattle.base.specs.Tables.{total};
 ghost use Rattle.quota.specs.Quota.{quotas, within_sizes, quotas_given};
 ghost use Rattle.quota.specs.Greedy.{least};
@@ -10,38 +10,19 @@ ghost use Rattle.quota.specs.Laws.{Positive, MoreClaims, SumIsSlots, LeastGreate
 ghost use Rattle.quota.specs.Laws.{OneWay, AddTakes, DropGives, RiseTakes, FallGives, GreedyGives, CutIsQuotas};
 ghost use Rattle.quota.specs.Cut.{Cut};
 
-// No slots yet. A function of its own, so that no proof has to carry 256 zeros.
-fn none_held() -> [u32; 256]
-    ensures { result ≡ replicate 256 0 }
-{
-    [0u32; 256]
-}
-
 // Whether rates and slots are within document 01's sizes.
 fn within_sizes(rates: &[u32], slots: u32) -> bool
     ensures { result ≡ within_sizes rates.now slots }
 {
-    if 256 < rates.len() {
-        return false;
-    }
-    if 16_384 < slots {
-        return false;
-    }
-    let mut i = 0;
-    while i < rates.len() {
-        if !base::rate_fits(rates[i]) {
-            return false;
-        }
-        i += 1;
-    }
-    true
+    rates.len() <= 256 && slots <= 16_384 && rates.iter().all(|&rate| base::rate_fits(rate))
 }
 
 // Whether a host's next claim weighs less than another's. Multiplied across in 64 bits, so nothing is lost.
+// No `Ord` of a type: the two numbers of a claim stand in two lists, rates lent and slots held, and are paired here alone.
 fn next_is_lighter(held: u32, rate: u32, held2: u32, rate2: u32) -> bool
     ensures { result ≡ ltb (suc held * rate2) (suc held2 * rate) }
 {
-    (held as u64 + 1) * (rate2 as u64) < (held2 as u64 + 1) * (rate as u64)
+    (u64::from(held) + 1) * u64::from(rate2) < (u64::from(held2) + 1) * u64::from(rate)
 }
 
 // The first place whose next claim is lightest.
@@ -50,12 +31,10 @@ fn lightest(rates: &[u32], held: &[u32]) -> usize
     ensures { result ≡ least rates.now held.now (length rates.now) }
 {
     let mut best = 0;
-    let mut i = 0;
-    while i < rates.len() {
-        if next_is_lighter(held[i], rates[i], held[best], rates[best]) {
+    for (i, &rate) in rates.iter().enumerate() {
+        if next_is_lighter(held[i], rate, held[best], rates[best]) {
             best = i;
         }
-        i += 1;
     }
     best
 }
@@ -67,27 +46,20 @@ fn give_out(rates: &[u32], left: u32, held: &mut [u32])
     requires fits { total held.old + left ≤ 16384 }
     ensures { held.new ≡ quotas rates.now (total held.old + left) }
 {
-    let mut given = 0;
-    while given < left {
+    for _ in 0..left {
         let p = lightest(rates, held);
         held[p] += 1;
-        given += 1;
     }
 }
 
-// The quotas of the hosts in their order, and zeros behind them. Outside the sizes there are none.
+// The quotas of the hosts in their order, and zeros behind them, in memory that does not grow. Outside the sizes there are none.
 pub fn quotas(rates: &[u32], slots: u32) -> [u32; 256]
     ensures { result ≡ quotas_given rates.now slots }
 {
-    let mut held = none_held();
-    let n = rates.len();
-    if !within_sizes(rates, slots) {
-        return held;
+    let mut held = base::filled(0);
+    if within_sizes(rates, slots) && !rates.is_empty() {
+        give_out(rates, slots, &mut held[..rates.len()]);
     }
-    if n == 0 {
-        return held;
-    }
-    give_out(rates, slots, &mut held[..n]);
     held
 }
 

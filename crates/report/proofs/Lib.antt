@@ -1,3 +1,3 @@
 pub mod Lists
 pub mod Replies
-pub mod Plans
+pub mod Quotas

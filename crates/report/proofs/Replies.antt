@@ -7,9 +7,13 @@ use Prim.Native.Nat.{ℕ}
 use native.Mathlib.Omega.{arith}
 use lib.Dec.{eqb}
 use borrow.Author.Tests.{eq-eqb, ne_eqb, eqb-true, eqb-false}
+use Rattle.std.specs.Prelude.{Result}
 use Rattle.base.specs.Sizes.{slots_fit}
 use Rattle.base.specs.Rows.{lowest, rises_from}
+use Rattle.base.specs.Refusals.{answer_of as told}
+use Rattle.base.specs.declared.Refusal.{Refusal}
 use Rattle.base.proofs.Tests.{by_test}
+use Rattle.base.proofs.Refusals.{told_once}
 use Rattle.roster.specs.declared.Roster.{Roster}
 use Rattle.roster.specs.Roster.{valid}
 use Rattle.report.specs.Report.{answer_of, reported}
@@ -36,6 +40,9 @@ module _ (r : Roster) (slots records : ℕ) where
       pub answer-done : r.count ≡ records → answer_of r slots records ≡ 0
       unfolding answer_of lowest
       answer-done e = rw (sizes, right, eq-eqb _ _ e)
+
+-- the answer at each row, for the proof of `checked`
+pub ruleset answer_rows = (answer-slots, answer_roster, answer_records, answer-done)
 
 -- an answer of 0 tells that no row holds
 module _ (r : Roster) (slots records : ℕ) (done : answer_of r slots records ≡ 0) where
@@ -65,5 +72,9 @@ pub refused_unwritten : RefusedUnwritten
 unfolding reported
 refused_unwritten r slots out ne = rw (ne_eqb _ _ ne)
 
+-- results that tell the same answer are the same
+once : (a b : Result (Unit {0}) Refusal) → told a ≡ told b → a ≡ b
+once = told_once told (λ n. n) (λ done. refl) (λ reason. refl) (λ a b h. refl)
+
 pub report_fixed : ReportFixed
-report_fixed r slots out a b x y p q = (p.0 ∙ sym q.0, p.1 ∙ sym q.1)
+report_fixed r slots out a b x y p q = (once a b (p.0 ∙ sym q.0), p.1 ∙ sym q.1)

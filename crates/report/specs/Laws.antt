@@ -1,7 +1,9 @@
 -- What a report promises, as statements; the function `promises` holds them all.
 -- Assumes nothing.
-use Rattle.std.specs.Prelude.{◌≡◌, true, ◌≢◌, List, ℕ, ◌<◌, length, get_or}
+use Rattle.std.specs.Prelude.{◌≡◌, true, ◌≢◌, List, ℕ, ◌<◌, Result, length, get_or}
 use Rattle.base.specs.Rows.{rises_from}
+use Rattle.base.specs.Refusals.{answer_of as told}
+use Rattle.base.specs.declared.Refusal.{Refusal}
 use Rattle.roster.specs.declared.Roster.{Roster}
 use Rattle.report.specs.declared.HostRecord.{HostRecord}
 use Rattle.report.specs.Report.{rows, host_record, answer_of, reported}
@@ -21,9 +23,9 @@ OneRecordAHost =
 abbrev pub RefusedUnwritten : Type 0
 RefusedUnwritten = (r : Roster) (slots : ℕ) (out : List HostRecord) → answer_of r slots (length out) ≢ 0 → reported r slots out ≡ out
 
--- two answers, and two lists at exit, that meet the contract are equal
+-- two results, and two lists at exit, that meet the contract are equal
 abbrev pub ReportFixed : Type 0
 ReportFixed =
-    (r : Roster) (slots : ℕ) (out : List HostRecord) (a b : ℕ) (x y : List HostRecord) →
-    (a ≡ answer_of r slots (length out)) × (x ≡ reported r slots out) →
-    (b ≡ answer_of r slots (length out)) × (y ≡ reported r slots out) → (a ≡ b) × (x ≡ y)
+    (r : Roster) (slots : ℕ) (out : List HostRecord) (a b : Result (Unit {0}) Refusal) (x y : List HostRecord) →
+    (told a ≡ answer_of r slots (length out)) × (x ≡ reported r slots out) →
+    (told b ≡ answer_of r slots (length out)) × (y ≡ reported r slots out) → (a ≡ b) × (x ≡ y)

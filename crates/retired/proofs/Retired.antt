@@ -7,6 +7,7 @@ use Prim.Native.Nat.{ℕ}
 use native.Mathlib.Omega.{arith}
 use lib.Dec.{eqb}
 use lib.ListN.{length, take}
+use Rattle.std.specs.Prelude.{Option, Some, None, Result, Ok, Err}
 use Rattle.base.specs.Rows.{listed}
 use Rattle.base.proofs.Answers.{not_listed}
 use Rattle.roster.specs.declared.Roster.{Roster}
@@ -17,12 +18,11 @@ use Rattle.events.specs.Forecasts.{forecast_answer}
 use Rattle.find.specs.Reply.{found, answer_of as findAnswer}
 use Rattle.load.specs.Reply.{carried, answer_of as loadAnswer}
 use Rattle.report.specs.Report.{answer_of as reportAnswer}
-use Rattle.lines.specs.declared.Number.{Number}
-use Rattle.lines.specs.declared.Number.TheVariants.{Is, Spoilt}
 use Rattle.lines.specs.declared.Record.{Record}
 use Rattle.lines.specs.declared.Record.TheVariants.{Change, Find, Comment}
 use Rattle.lines.specs.declared.Read.{Read}
-use Rattle.lines.specs.declared.Read.TheVariants.{Count, Part, Whole, Malformed}
+use Rattle.lines.specs.declared.Read.TheVariants.{Count, Part, Whole}
+use Rattle.lines.specs.declared.Malformed.{Malformed}
 use Rattle.lines.specs.Numbers.{number_of, answer_of as numberAnswer}
 use Rattle.lines.specs.Lines.{key_of, read_line, answer_of as lineAnswer}
 use Rattle.stream.specs.declared.State.{State}
@@ -41,16 +41,14 @@ find_not : (slots : List ℕ) (S : ℕ) (key : List ℕ) → (found slots S key)
 unfolding found findAnswer listed
 find_not slots S key = not_listed _ retired (omega arith) refl
 
--- enums that are answers, case by case
-number_not : (n : Number) → numberAnswer n ≢ retired
-number_not (Is value) e = omega arith
-number_not Spoilt e = omega arith
+-- what is read, case by case
+number_not : (n : Option ℕ) → numberAnswer n ≢ retired
+number_not (Some value) e = omega arith
+number_not None e = omega arith
 
-line_not : (x : Read) → lineAnswer x ≢ retired
-line_not (Count value) e = omega arith
-line_not (Part due) e = omega arith
-line_not (Whole whole) e = omega arith
-line_not (Malformed line) e = omega arith
+line_not : (x : Result Read Malformed) → lineAnswer x ≢ retired
+line_not (Ok read) e = omega arith
+line_not (Err at_line) e = omega arith
 
 -- where neither of two things answers it, the one chosen does not
 chosen_not : {A : Type 0} (f : A → ℕ) (b : Bool) (x y : A) → f x ≢ retired → f y ≢ retired → f (cond b x y) ≢ retired
@@ -67,12 +65,12 @@ record_not s owners line (Change event) = event_not s.roster s.slots event (take
 record_not s owners line Find = find_not (take s.slots owners) s.slots (key_of line)
 record_not s owners line Comment = λ e. omega arith
 
-brought_not : (s : State) (owners line : List ℕ) (x : Read) → says (does s owners line x) ≢ retired
-brought_not s owners line (Count slots) =
+brought_not : (s : State) (owners line : List ℕ) (x : Result Read Malformed) → says (does s owners line x) ≢ retired
+brought_not s owners line (Ok (Count slots)) =
     chosen_not says (count_fits slots (length owners)) _ _ (λ e. omega arith) (λ e. omega arith)
-brought_not s owners line (Part due) = λ e. omega arith
-brought_not s owners line (Whole whole) = record_not s owners line whole
-brought_not s owners line (Malformed number) = λ e. omega arith
+brought_not s owners line (Ok (Part due)) = λ e. omega arith
+brought_not s owners line (Ok (Whole whole)) = record_not s owners line whole
+brought_not s owners line (Err at_line) = λ e. omega arith
 
 taken_not : (s : State) (owners line : List ℕ) → says (takes s owners line) ≢ retired
 unfolding takes

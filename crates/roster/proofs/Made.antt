@@ -37,13 +37,13 @@ module _ (r : Roster) (host rate : ℕ) (t : may_add r host rate ≡ true) where
   add-place = subst (λ n. place_in r host ≤ n) (length_hosts r f) (place-fits (hosts_of r) host)
 
   pub made_added : (p : ℕ) → p ≡ place_in r host → (hosts rates : List ℕ) →
-      hosts ≡ take (length r.hosts) (insert_at p host r.hosts) → rates ≡ take (length r.hosts) (insert_at p rate r.rates) →
+      hosts ≡ take (length r.hosts) (insert_at p host r.hosts) → rates ≡ take (length r.rates) (insert_at p rate r.rates) →
       roster hosts rates (r.count + 1) ≡ added r host rate
   made_added p e hosts rates eh er =
       let room = add_room r host rate t in
       same_parts
       (eh ∙ ap (λ k. take (length r.hosts) (insert_at k host r.hosts)) e ∙ array_put r.hosts r.count f.hosts_long f.few f.no_host (place_in r host) host room add-place)
-      (er ∙ ap (λ k. take (length r.hosts) (insert_at k rate r.rates)) e ∙ ap (λ n. take n (insert_at (place_in r host) rate r.rates)) (f.hosts_long ∙ sym f.rates_long)
+      (er ∙ ap (λ k. take (length r.rates) (insert_at k rate r.rates)) e
       ∙ array_put r.rates r.count f.rates_long f.few f.no_rate (place_in r host) rate room add-place)
       (add-one r.count ∙ ap suc (sym (length_hosts r f)) ∙ sym (length_insert (place_in r host) host (hosts_of r) (place-fits (hosts_of r) host)))
       ∙ sym (added_is r host rate t)

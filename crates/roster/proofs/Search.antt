@@ -1,16 +1,24 @@
 -- Where a host number stands among rising ones, and whether it is there.
 -- Assumes nothing.
 use mathlib.Core.Path.{◌≡◌, sym, ap, ◌∙◌}
-use mathlib.Core.Bool.{true, false}
+use mathlib.Core.Bool.{true, false, not}
 use mathlib.Core.Logic.{⊎_elim, by_cases}
 use mathlib.Core.List.{List}
-use Prim.Native.Nat.{ℕ, ◌+◌, ◌≤◌, ◌<◌}
-use native.Mathlib.Nat.{lt_trans, lt_irrefl, lt_of_le_of_lt, le_of_eq, le_antisymm, eq-or-lt_of_le, lt_of_lt_of_le, le_trans, le_of_lt}
+use Prim.Native.Nat.{ℕ, ◌≤◌, ◌<◌}
+use native.Mathlib.Nat.{lt_trans, lt_irrefl, lt_of_le_of_lt, le_of_eq, le_antisymm, eq-or-lt_of_le, lt_of_lt_of_le, le_of_lt}
 use native.Mathlib.Omega.{arith, by_contra}
 use native.Mathlib.Decide.{dec_lt, ℕ_discrete}
 use lib.Dec.{ltb, eqb}
 use lib.ListN.{length}
 use borrow.Author.Tests.{lt-ltb, le-ltb, ltb-true, ltb-false, eq-eqb, ne_eqb}
+use Prim.Native.Nat.{zero-le}
+use native.Mathlib.Nat.{le_refl, le_trans}
+use Rattle.std.specs.Prelude.{Result, Ok, Err, is_ok, MatchOption}
+use Rattle.std.specs.Result.{result_ok, result_err}
+use Rattle.std.specs.Ordering.{nat_cmp}
+use Rattle.std.specs.List.Sorted.{IsPartitionedBy, IsPartitionPoint, IsBinarySearchResult}
+use Rattle.std.proofs.lemmas.List.Sorted.{searched}
+use Rattle.std.proofs.lemmas.Grind.{get_or_default_zero}
 use Rattle.base.specs.Tables.{at}
 use Rattle.base.proofs.Sums.{count_fits_lem, count_prefix}
 use Rattle.base.proofs.Tests.{never, any_at, any_none}
@@ -80,28 +88,58 @@ module _ (hosts : List ℕ) (rises : Rises hosts) (host : ℕ) where
       (λ e. eq-eqb _ _ e ∙ sym (on_there l e))
       (λ ne. ne_eqb _ _ ne ∙ sym (off_other l ne))
 
--- the search by halves -----------------------------------------------------------------
+-- the library's searches -----------------------------------------------------------------
 
--- the place is between lo and hi
-pub record Between (hosts : List ℕ) (host lo hi : ℕ) : Type 0 where
-  pub low : lo ≤ hi
-  pub high : hi ≤ length hosts
-  pub from : Rises hosts → lo ≤ place hosts host
-  pub upto : Rises hosts → place hosts host ≤ hi
+module _ (hosts : List ℕ) (rises : Rises hosts) (host : ℕ) where
+  rises_on : (i j : ℕ) → i ≤ j → j < length hosts → at hosts i ≤ at hosts j
+  rises_on i j h l = ⊎_elim (λ e. le_of_eq (ap (at hosts) e)) (λ w. le_of_lt (rises i j w l)) (eq-or-lt_of_le h)
 
-module _ {hosts : List ℕ} {host lo hi : ℕ} (b : Between hosts host lo hi) (mid : ℕ) (l : lo ≤ mid) (h : mid < hi) where
-  pub upper_half : at hosts mid < host → Between hosts host (mid + 1) hi
-  upper_half t = record {
-    low = omega arith;
-    high = b.high;
-    from = λ rises. let v = lower_before hosts rises host mid (lt_of_lt_of_le h b.high) t in omega arith;
-    upto = b.upto;
-  }
+  -- no lower number comes after one that is not lower
+  pub lower_part : IsPartitionedBy (λ y. ltb y host) hosts
+  lower_part i j d h l t =
+      let low = ltb-true _ _ t in
+      lt-ltb _ _ (omega (arith, low, rises_on i j h l, get_or_default_zero hosts j d l, get_or_default_zero hosts i d (omega arith)))
 
-  pub lower_half : host ≤ at hosts mid → Between hosts host lo mid
-  lower_half t = record {
-    low = l;
-    high = le_trans (le_of_lt h) b.high;
-    from = b.from;
-    upto = λ rises. place-before hosts rises host mid (lt_of_lt_of_le h b.high) t;
-  }
+  -- so the point at which the lower ones end is the place
+  pub place_parts : (p : ℕ) → p ≤ length hosts → IsPartitionPoint (λ y. ltb y host ≡ true) (λ y. ltb y host ≡ false) hosts p → p ≡ place hosts host
+  place_parts p h parts =
+      let below : (i : ℕ) → i < p → at hosts i < host = λ i l. ltb-true _ _ (parts.0 i 0 zero-le l) in
+      let above : (i : ℕ) → p ≤ i → i < length hosts → host ≤ at hosts i = λ i g l. ltb-false _ _ (parts.1 i 0 g l) in
+      le_antisymm
+      (by_contra _ _ λ w. lt_irrefl _ (lt_of_le_of_lt (from_place hosts rises host _ (lt_of_lt_of_le w h) (le_refl _)) (below _ w)))
+      (by_contra _ _ λ w. lt_irrefl _ (lt_of_le_of_lt (above p (le_refl p) (lt_of_lt_of_le w (place-fits hosts host))) (before-place hosts rises host p w)))
+
+  -- and a search finds a number exactly where it is on the list
+  pub search_tells : (r : Result ℕ ℕ) → IsBinarySearchResult (λ y. nat_cmp y host) hosts r → is_ok r ≡ is_on hosts host
+  unfolding is_on
+  search_tells (Ok i) found =
+      let s = searched hosts host (Ok i) found rises_on in
+      sym (any_at (length hosts) _ i s.0 (eq-eqb _ _ s.1))
+  search_tells (Err i) found =
+      let s = searched hosts host (Err i) found rises_on in
+      sym (any_none (length hosts) _ (λ k l. ne_eqb _ _ (λ e.
+      by_cases (dec_lt k i) (λ w. lt_irrefl _ (rw e at (s.1 k w))) (λ w. lt_irrefl _ (rw e at (s.2 k (by_contra _ _ w) l))))))
+
+  -- and where it finds one, that is the place
+  pub search_finds : (r : Result ℕ ℕ) → IsBinarySearchResult (λ y. nat_cmp y host) hosts r →
+      MatchOption (result_ok r) (is_on hosts host ≡ false) (λ p. (is_on hosts host ≡ true) × (p ≡ place hosts host))
+  search_finds (Ok i) found =
+      let s = searched hosts host (Ok i) found rises_on in
+      (sym (search_tells (Ok i) found), sym (place_at hosts rises host i s.0 s.1))
+  search_finds (Err i) found = sym (search_tells (Err i) found)
+
+  -- where it finds none, what it answers is where the number would stand
+  pub search_misses : (r : Result ℕ ℕ) → IsBinarySearchResult (λ y. nat_cmp y host) hosts r →
+      MatchOption (result_err r) (not (is_on hosts host) ≡ false) (λ p. (not (is_on hosts host) ≡ true) × (p ≡ place hosts host))
+  search_misses (Ok i) found = ap not (sym (search_tells (Ok i) found))
+  search_misses (Err i) found =
+      let s = searched hosts host (Err i) found rises_on in
+      let high : place hosts host ≤ i =
+      by_cases (dec_lt i (length hosts))
+      (λ l. place-before hosts rises host i l (le_of_lt (s.2 i (le_refl i) l)))
+      (λ w. le_trans (place-fits hosts host) (by_contra _ _ w)) in (
+        ap not (sym (search_tells (Err i) found)),
+        le_antisymm
+            (by_contra _ _ λ w. lt_irrefl _ (lt_of_le_of_lt (from_place hosts rises host _ (lt_of_lt_of_le w s.0) (le_refl _)) (s.1 _ w)))
+            high,
+      )

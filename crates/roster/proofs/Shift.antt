@@ -1,99 +1,46 @@
--- An entry put in or taken out in place, one place a turn: the invariants of the two loops, for either list.
+-- An entry put in or taken out in place: what a part of the list copied by one place, and one store, leave.
 -- Assumes nothing.
-use mathlib.Core.Path.{◌≡◌, refl, sym, ap, ◌∙◌}
+use mathlib.Core.Path.{◌≡◌, sym, ap, ◌∙◌}
 use mathlib.Core.List.{List, [], ◌∷◌, ◌++◌, append_assoc}
-use Prim.Native.Nat.{ℕ, suc, ◌+◌, ◌≤◌, ◌<◌}
-use native.Mathlib.Nat.{le_refl, le_of_lt, le_antisymm, le_of_eq}
+use Prim.Native.Nat.{ℕ, suc, ◌+◌, ◌-◌, ◌<◌}
+use native.Mathlib.Nat.{le_of_lt}
 use native.Mathlib.Numerals.{add-one}
 use native.Mathlib.Omega.{arith}
-use lib.ListN.{length, take, drop, set, length-set, length-append, get_or-eq_default}
-use lib.Seq.{length-take-le, take_at, take_all}
-use borrow.Author.Tests.{le-ltb}
-use Rattle.base.specs.Tables.{at}
-use Rattle.base.specs.Lists.{insert_at, remove_at}
-use Rattle.base.proofs.Entries.{length_insert, at_insert_here, at_insert_high, length_remove, at_remove, alike_zeros, overlay, overlay_from, overlay_next, overlay_done, at_overlay}
+use lib.ListN.{length, take, drop, set, get_or, length-append, length-drop}
+use lib.Seq.{paste, length-take-le, take_all, drop-cons, take-append-add, take-set-lt}
+use Rattle.std.proofs.Math.Seq.{set-append_seam}
+use Rattle.std.proofs.lemmas.List.{drop_all, set-append_left, take_more_set}
+use Rattle.std.proofs.Common.{append-nil}
 
--- put in -----------------------------------------------------------------------------
+module _ {X : Type 0} (l : List X) (p : ℕ) (v : X) (h : p < length l) (last : ℕ) (e : last + 1 ≡ length l) where
+  front : length (take p l) ≡ p
+  front = length-take-le p l (le_of_lt h)
 
--- at place i, with the entry that goes there in hand
-pub record PutIn (start : List ℕ) (p v : ℕ) (now : List ℕ) (hand i : ℕ) : Type 0 where
-  pub from : p ≤ i
-  pub upto : i ≤ length start
-  pub as_long : length now ≡ length start
-  pub entries : now ≡ overlay i (insert_at p v start) start
-  pub in_hand : hand ≡ at (insert_at p v start) i
+  -- up to the last place moved up by one, and the value at the place left free
+  pub put-paste : set (paste l (p + 1) (drop p l) (last - p)) p v ≡ take (length l) (take p l ++ v ∷ drop p l)
+  put-paste =
+      let moved : List X = take (last - p) (drop p l) in
+      let long : length (take (p + 1) l) ≡ p + 1 = length-take-le (p + 1) l (omega arith) in
+      let none : drop (p + 1 + (last - p)) l ≡ [] = drop_all _ l (omega arith) in
+      let fits : length (take p l) + suc (last - p) ≡ length l = omega (arith, front) in
+      ap (λ k. set ((take (p + 1) l ++ moved) ++ k) p v) none
+      ∙ ap (λ k. set k p v) (append-nil (take (p + 1) l ++ moved))
+      ∙ set-append_left (take (p + 1) l) moved p v (omega (arith, long))
+      ∙ ap (λ k. k ++ moved) (sym (take-set-lt (p + 1) l p v (omega arith)) ∙ take_more_set l p v h)
+      ∙ append_assoc (take p l) (v ∷ []) moved
+      ∙ sym (take-append-add (take p l) (v ∷ drop p l) (suc (last - p)))
+      ∙ ap (λ n. take n (take p l ++ v ∷ drop p l)) fits
 
-pub put_start : (start : List ℕ) (p v : ℕ) → p ≤ length start → PutIn start p v start v p
-put_start start p v h = record {
-  from = le_refl p;
-  upto = h;
-  as_long = refl;
-  entries = sym (overlay_from (insert_at p v start) start p (take_at (take p start) (v ∷ drop p start) p (length-take-le p start h)));
-  in_hand = sym (at_insert_here p v start h);
-}
-
-module _ {start now : List ℕ} {p v hand i : ℕ} (w : PutIn start p v now hand i) where
-  longer : length (insert_at p v start) ≡ suc (length start)
-  longer = length_insert p v start (let a = w.from in let b = w.upto in omega arith)
-
-  pub put_next : i < length start → PutIn start p v (set now i hand) (at now i) (i + 1)
-  put_next l = record {
-    from = omega (arith, w.from);
-    upto = omega arith;
-    as_long = length-set now i hand ∙ w.as_long;
-    entries = rw (w.entries, w.in_hand) (overlay_next (insert_at p v start) start i (omega (arith, longer)) l);
-    in_hand = ap (λ k. at k i) w.entries ∙ at_overlay (insert_at p v start) start i i (omega (arith, longer)) (le_refl i)
-        ∙ sym (at_insert_high p v start (omega (arith, w.from)) i w.from) ∙ ap (at (insert_at p v start)) (sym (add-one i));
-  }
-
-  pub put_done : length start ≤ i → now ≡ take (length start) (insert_at p v start)
-  put_done h = w.entries ∙ ap (λ k. overlay k (insert_at p v start) start) (le_antisymm w.upto h) ∙ overlay_done (insert_at p v start) start (length start) refl
-
--- take out ---------------------------------------------------------------------------
-
--- at place i, all before it as they will be
-pub record TakeOut (start : List ℕ) (p : ℕ) (now : List ℕ) (i : ℕ) : Type 0 where
-  pub from : p ≤ i
-  pub below : i < length start
-  pub as_long : length now ≡ length start
-  pub entries : now ≡ overlay i (remove_at p start ++ 0 ∷ []) start
-
-pub take-start : (start : List ℕ) (p : ℕ) → p < length start → TakeOut start p start p
-take-start start p h = record {
-  from = le_refl p;
-  below = h;
-  as_long = refl;
-  entries = sym (overlay_from (remove_at p start ++ 0 ∷ []) start p
-      (ap (take p) (append_assoc (take p start) (drop (suc p) start) (0 ∷ [])) ∙ take_at (take p start) _ p (length-take-le p start (le_of_lt h))));
-}
-
-module _ {start now : List ℕ} {p i : ℕ} (w : TakeOut start p now i) where
-  within : p < length start
-  within = omega (arith, w.from, w.below)
-
-  full : length (remove_at p start ++ 0 ∷ []) ≡ length start
-  full = length-append (remove_at p start) (0 ∷ []) ∙ add-one (length (remove_at p start)) ∙ length_remove p start within
-
-  -- what comes to place i stood one further
-  comes : at (remove_at p start ++ 0 ∷ []) i ≡ at start (suc i)
-  comes = alike_zeros 1 (remove_at p start) i ∙ at_remove p start within i ∙ rw (le-ltb i p w.from) refl
-
-  written : (v : ℕ) → v ≡ at start (suc i) → set now i v ≡ overlay (i + 1) (remove_at p start ++ 0 ∷ []) start
-  written v e = rw (w.entries, e, ← comes) (overlay_next (remove_at p start ++ 0 ∷ []) start i (omega (arith, full, w.below)) w.below)
-
-  pub take_next : i + 1 < length start → TakeOut start p (set now i (at now (i + 1))) (i + 1)
-  take_next l = record {
-    from = omega (arith, w.from);
-    below = l;
-    as_long = length-set now i (at now (i + 1)) ∙ w.as_long;
-    entries = written (at now (i + 1))
-        (ap (λ k. at k (i + 1)) w.entries ∙ at_overlay (remove_at p start ++ 0 ∷ []) start i (i + 1) (omega (arith, full, w.below)) (omega arith) ∙ ap (at start) (add-one i));
-  }
-
-  pub take_done : length start ≤ i + 1 → set now i 0 ≡ remove_at p start ++ 0 ∷ []
-  take_done h =
-      let e : i + 1 ≡ length start = omega (arith, w.below) in
-      written 0 (sym (get_or-eq_default start 0 (omega arith)))
-      ∙ ap (λ k. overlay k (remove_at p start ++ 0 ∷ []) start) e
-      ∙ overlay_done (remove_at p start ++ 0 ∷ []) start (length start) refl
-      ∙ take_all (length start) _ (le_of_eq full)
+  -- from the next place on moved down by one, and the value at the last place
+  pub taken-paste : set (paste l p (drop (p + 1) l) (length l - (p + 1))) last v ≡ (take p l ++ drop (suc p) l) ++ v ∷ []
+  taken-paste =
+      let kept : List X = take p l ++ drop (p + 1) l in
+      let long : length kept ≡ last = omega (arith, length-append (take p l) (drop (p + 1) l), length-drop (p + 1) l, front) in
+      let ends : p + (length l - (p + 1)) ≡ last = omega arith in
+      let one : drop last l ≡ get_or l last v ∷ [] = drop-cons l last v (omega arith) ∙ ap (λ k. get_or l last v ∷ k) (drop_all (suc last) l (omega arith)) in
+      ap (λ k. set ((take p l ++ k) ++ drop (p + (length l - (p + 1))) l) last v) (take_all (length l - (p + 1)) (drop (p + 1) l) (omega (arith, length-drop (p + 1) l)))
+      ∙ ap (λ k. set (kept ++ drop k l) last v) ends
+      ∙ ap (λ k. set (kept ++ k) last v) one
+      ∙ ap (λ n. set (kept ++ get_or l last v ∷ []) n v) (sym long)
+      ∙ set-append_seam kept (get_or l last v) [] v
+      ∙ ap (λ n. (take p l ++ drop n l) ++ v ∷ []) (add-one p)

@@ -2,3 +2,4 @@ pub mod Roster
 pub mod Changes
 pub mod Laws
 pub mod Places
+pub mod Valid

@@ -1,32 +1,30 @@
 -- Laws of what is held between two turns: a run, what is kept, and what is read lead from one to the next.
 -- Assumes nothing.
 use mathlib.Core.Path.{◌≡◌, refl, sym, ap, ◌∙◌}
-use mathlib.Core.Bool.{Bool, true, false, true≢false}
+use mathlib.Core.Bool.{Bool, true, false}
 use mathlib.Core.List.{List, [], ◌∷◌, ◌++◌, append-nil, append_assoc}
 use mathlib.Core.Logic.{inl, inr}
-use Prim.Native.Nat.{ℕ, ◌+◌, ◌≤◌}
+use Prim.Native.Nat.{ℕ, ◌+◌, ◌≤◌, ◌<◌}
 use native.Mathlib.Omega.{arith}
 use lib.ListN.{length, take, drop, replicate, length-append}
 use lib.Seq.{take_at, take-append-add, length-take-le}
 use Rattle.stream.specs.declared.State.{State}
 use Rattle.stream.specs.Steps.{start}
 use Rattle.feed.specs.Feed.{has_line}
+use Rattle.feed.proofs.Lines.{piece_left}
 use Rattle.printing.specs.Wrote.{wrote}
 use Rattle.buffer.specs.declared.Ran.{Ran}
 use Rattle.buffer.specs.Run.{run, ran}
 use Rattle.buffer.specs.Reads.{Served, unserved, gone_on, served, after_reads}
-use Rattle.buffer.proofs.Runs.{run_idle}
+use Rattle.buffer.proofs.Runs.{run-within, run_idle}
+use Rattle.serving.specs.declared.Server.{Server}
 use Rattle.serving.specs.Served.{Faithful}
-use Rattle.serving.specs.Turns.{Holding, Longer}
+use Rattle.serving.specs.Turns.{Holding, Waiting}
 
 -- before the first read nothing is held
-pub holding_first : (buf : List ℕ) → Holding start (replicate 16384 0) buf 0
+pub holding_first : (v : Server) → v.state ≡ start → v.owners ≡ replicate 16384 0 → v.held ≡ 0 → Holding v
 unfolding after_reads
-holding_first buf = record { reads = []; since = []; state = refl; owned = refl; bytes = refl; within = omega arith }
-
--- turns that are broken off promise no end
-pub broken_off : {s : State} {owners buf : List ℕ} {held : ℕ} → Holding s owners buf held → Faithful s false
-broken_off kept = record { reads = kept.reads; state = kept.state; done = λ w. absurd (true≢false (sym w)) }
+holding_first v s o h = record { reads = []; since = []; state = s; owned = o; bytes = ap (λ n. take n v.buf) h; within = omega arith }
 
 -- one read more, behind the others
 after_one_more : (v : Served) (reads : List (List ℕ × ℕ)) (bytes : List ℕ) (size : ℕ) → after_reads v (reads ++ (bytes, size) ∷ []) ≡ served (after_reads v reads) bytes size
@@ -34,61 +32,87 @@ unfolding after_reads
 after_one_more v [] bytes size = refl
 after_one_more v (read ∷ reads) bytes size = after_one_more (served v read.0 read.1) reads bytes size
 
-module _ {s : State} {owners buf : List ℕ} {held : ℕ} (kept : Holding s owners buf held) (size : ℕ) (r : Ran) (is : r ≡ ran (run s owners (take held buf) size)) where
+module _ {v : Server} (kept : Holding v) (size : ℕ) (r : Ran) (is : r ≡ ran (run v.state v.owners (take v.held v.buf) size)) where
   -- the reads with the run that was made of them
   abbrev reads : List (List ℕ × ℕ)
   reads = kept.reads ++ (kept.since, size) ∷ []
 
-  after_run : after_reads unserved reads ≡ gone_on (after_reads unserved kept.reads) (take held buf) (run s owners (take held buf) size)
+  after_run : after_reads unserved reads ≡ gone_on (after_reads unserved kept.reads) (take v.held v.buf) (run v.state v.owners (take v.held v.buf) size)
   after_run = after_one_more unserved kept.reads kept.since size ∙ sym (rw (kept.bytes, kept.state, kept.owned))
 
   now_state : r.state ≡ (after_reads unserved reads).state
-  now_state = ap (λ x. x.state) is ∙ sym (ap (λ v. v.state) after_run)
+  now_state = ap (λ x. x.state) is ∙ sym (ap (λ x. x.state) after_run)
 
-  now_left : (after_reads unserved reads).left ≡ drop r.next (take held buf)
-  now_left = ap (λ v. v.left) after_run ∙ ap (λ x. drop x.next (take held buf)) (sym is)
+  now_left : (after_reads unserved reads).left ≡ drop r.next (take v.held v.buf)
+  now_left = ap (λ x. x.left) after_run ∙ ap (λ x. drop x.next (take v.held v.buf)) (sym is)
 
-  now_owned : (owners' : List ℕ) → owners' ≡ (run s owners (take held buf) size).owners → owners' ≡ (after_reads unserved reads).owners
-  now_owned owners' o = o ∙ sym (ap (λ v. v.owners) after_run)
+  now_owned : (owners : List ℕ) → owners ≡ (run v.state v.owners (take v.held v.buf) size).owners → owners ≡ (after_reads unserved reads).owners
+  now_owned owners o = o ∙ sym (ap (λ x. x.owners) after_run)
 
   -- a write failed, or the stream has stopped
   pub over : (told : Bool) → (told ≡ true → r.state.stopped ≡ true) → Faithful r.state told
   over told stops = record { reads = reads; state = now_state; done = λ w. inl (sym (ap (λ x. x.stopped) now_state) ∙ stops w) }
 
-  -- the input has ended with no line left
-  pub ended : (told : Bool) → r.next ≡ 0 → r.state.stopped ≡ false → 84 ≤ size → Faithful r.state told
-  ended told still on room =
-      let none = run_idle s owners (take held buf) size (sym (ap (λ x. x.next) is) ∙ still) (sym (ap (λ x. x.state.stopped) is) ∙ on) room in
-      let left : (after_reads unserved reads).left ≡ take held buf = now_left ∙ ap (λ n. drop n (take held buf)) still in
-      record { reads = reads; state = now_state; done = λ w. inr (ap (λ l. has_line l 0) left ∙ none) }
+  -- nothing was taken, since no line is left
+  module _ (still : r.next ≡ 0) (on : r.state.stopped ≡ false) (room : 84 ≤ size) where
+    none : has_line (take v.held v.buf) 0 ≡ false
+    none = run_idle v.state v.owners (take v.held v.buf) size (sym (ap (λ x. x.next) is) ∙ still) (sym (ap (λ x. x.state.stopped) is) ∙ on) room
 
-  -- what came stands behind what was held
-  pub longer : (owners' buf' : List ℕ) (more : ℕ) → owners' ≡ (run s owners (take held buf) size).owners → length buf' ≡ length buf → r.next ≡ 0 → Longer buf buf' held more → Holding r.state owners' buf' more
-  longer owners' buf' more o same still l =
-      let left : take held buf ≡ (after_reads unserved reads).left = sym (now_left ∙ ap (λ n. drop n (take held buf)) still) in
-      record { reads = reads; since = l.came; state = now_state; owned = now_owned owners' o; bytes = l.bytes ∙ ap (λ x. x ++ l.came) left; within = let most = l.within in omega arith }
+    pub waiting : (w : Server) → w.state ≡ r.state → w.owners ≡ (run v.state v.owners (take v.held v.buf) size).owners → w.buf ≡ v.buf → w.held ≡ v.held → Waiting w
+    waiting w s o b h =
+        let same : take w.held w.buf ≡ take v.held v.buf = rw (b, h) in
+        record {
+          reads = reads;
+          state = s ∙ now_state;
+          owned = now_owned w.owners o;
+          bytes = same ∙ sym (now_left ∙ ap (λ n. drop n (take v.held v.buf)) still);
+          none = ap (λ l. has_line l 0) same ∙ none;
+        }
+
+    -- and leaves room behind it
+    pub room_left : 8192 < length v.buf → v.held < length v.buf
+    room_left large =
+        let few = (piece_left (take v.held v.buf) 0 none).1 in
+        let most = length-take-le v.held v.buf kept.within in
+        omega arith
 
   -- what is left was moved to the front
-  pub shorter : (owners' part : List ℕ) (n : ℕ) → owners' ≡ (run s owners (take held buf) size).owners → n ≡ length (drop r.next (take held buf)) →
-      part ≡ wrote (take held buf) 0 (drop r.next (take held buf)) → Holding r.state owners' (part ++ drop held buf) n
+  pub shorter : (w : Server) (part : List ℕ) → w.state ≡ r.state → w.owners ≡ (run v.state v.owners (take v.held v.buf) size).owners → w.buf ≡ part ++ drop v.held v.buf →
+      w.held ≡ length (drop r.next (take v.held v.buf)) → part ≡ wrote (take v.held v.buf) 0 (drop r.next (take v.held v.buf)) → Holding w
   unfolding wrote
-  shorter owners' part n o size_is put =
-      let left = drop r.next (take held buf) in
-      let tail = drop (0 + length left) (take held buf) in
-      let all : part ++ drop held buf ≡ left ++ (tail ++ drop held buf) = ap (λ p. p ++ drop held buf) put ∙ append_assoc left tail (drop held buf) in
+  shorter w part s o b h put =
+      let left = drop r.next (take v.held v.buf) in
+      let tail = drop (0 + length left) (take v.held v.buf) in
+      let all : w.buf ≡ left ++ (tail ++ drop v.held v.buf) = b ∙ ap (λ p. p ++ drop v.held v.buf) put ∙ append_assoc left tail (drop v.held v.buf) in
       record {
         reads = reads;
         since = [];
-        state = now_state;
-        owned = now_owned owners' o;
-        bytes = ap (take n) all ∙ take_at left (tail ++ drop held buf) n (sym size_is) ∙ sym now_left ∙ sym (append-nil _);
-        within = rw all (omega (arith, length-append left (tail ++ drop held buf)));
+        state = s ∙ now_state;
+        owned = now_owned w.owners o;
+        bytes = ap (take w.held) all ∙ take_at left (tail ++ drop v.held v.buf) w.held (sym h) ∙ sym now_left ∙ sym (append-nil _);
+        within = rw all (omega (arith, length-append left (tail ++ drop v.held v.buf)));
       }
 
--- a read puts what came behind the bytes held
-pub read_behind : (buf tail : List ℕ) (held n : ℕ) → held + n ≤ length buf → Longer buf (take held buf ++ tail) held (held + n)
-read_behind buf tail held n l = record {
-  came = take n tail;
-  bytes = ap (λ k. take (k + n) (take held buf ++ tail)) (sym (length-take-le held buf (omega arith))) ∙ take-append-add (take held buf) tail n;
-  within = l;
-}
+module _ {v : Server} (waits : Waiting v) where
+  -- the input has ended
+  pub ended : (told : Bool) → Faithful v.state told
+  ended told = record { reads = waits.reads; state = waits.state; done = λ w. inr (ap (λ l. has_line l 0) (sym waits.bytes) ∙ waits.none) }
+
+  -- what came stands behind what was held
+  pub longer : (w : Server) (part rest : List ℕ) (n : ℕ) → w.state ≡ v.state → w.owners ≡ v.owners → w.buf ≡ take v.held v.buf ++ (part ++ rest) → w.held ≡ v.held + n →
+      v.held ≤ length v.buf → n ≤ length part → Holding w
+  longer w part rest n s o b h within most =
+      let size = length-take-le v.held v.buf within in
+      let place : w.held ≡ length (take v.held v.buf) + n = omega arith in
+      record {
+        reads = waits.reads;
+        since = take n (part ++ rest);
+        state = s ∙ waits.state;
+        owned = o ∙ waits.owned;
+        bytes = rw (b, place) (take-append-add (take v.held v.buf) (part ++ rest) n ∙ ap (λ x. x ++ take n (part ++ rest)) waits.bytes);
+        within = rw b (omega (arith, length-append (take v.held v.buf) (part ++ rest), length-append part rest));
+      }
+
+-- what a run prints stays within the output
+pub run_fits : (r : Ran) (s : State) (owners input : List ℕ) (size : ℕ) → r ≡ ran (run s owners input size) → r.printed ≤ size
+run_fits r s owners input size is = let most = (run-within s owners input size).1 in let put = ap (λ x. x.printed) is in omega arith

@@ -1,4 +1,3 @@
-pub mod Parts
 pub mod Turns
 pub mod Passes
 pub mod Samples

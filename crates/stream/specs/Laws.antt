@@ -1,8 +1,7 @@
 -- What a stream promises, as statements; the function `promises` holds them all.
 -- Assumes nothing.
-use Rattle.std.specs.Prelude.{◌≡◌, true, false, ◌≢◌, List, [], ◌++◌, ℕ, ◌<◌}
+use Rattle.std.specs.Prelude.{◌≡◌, true, false, ◌≢◌, Option, Some, List, [], ◌++◌, ℕ, ◌<◌}
 use Rattle.lines.specs.declared.Due.{Due}
-use Rattle.lines.specs.declared.Number.TheVariants.{Is}
 use Rattle.lines.specs.Numbers.{number_of}
 use Rattle.stream.specs.declared.State.{State}
 use Rattle.stream.specs.declared.Said.{Said}
@@ -20,7 +19,7 @@ AnswerFirst = (said : Said) → said ≢ Nothing → (rest : List ℕ) × (text_
 
 -- a number of at most 9 digits, printed, is read back as itself
 abbrev pub DecimalReads : Type 0
-DecimalReads = (n : ℕ) → n < 1000000000 → number_of (decimal n) ≡ Is n
+DecimalReads = (n : ℕ) → n < 1000000000 → number_of (decimal n) ≡ Some n
 
 -- once a stream has stopped nothing more is printed, whatever comes
 abbrev pub StoppedSilent : Type 0
@@ -35,9 +34,9 @@ TakenFixed =
 -- a line taken with no roster at hand leaves what the line taken leaves, and the owners as they were
 abbrev pub PassedTakes : Type 0
 PassedTakes =
-    (s : State) (owners line : List ℕ) → s.stopped ≡ false → (passes s.due (next_number s.lines) s.slots owners line).taken ≡ true →
-    (takes s owners line ≡ record { state = goes_on s (passes s.due (next_number s.lines) s.slots owners line).due; said = (passes s.due (next_number s.lines) s.slots owners line).said })
-    × (owners_after s owners line ≡ owners)
+    (s : State) (owners line : List ℕ) (p : Passed) → s.stopped ≡ false → passes s.due (next_number s.lines) s.slots owners line ≡ Some p →
+    (takes s owners line ≡ record { state = goes_on s p.due; said = p.said }) × (owners_after s owners line ≡ owners)
 
 abbrev pub PassedFixed : Type 0
-PassedFixed = (due : Due) (number slots : ℕ) (owners line : List ℕ) (x y : Passed) → x ≡ passes due number slots owners line → y ≡ passes due number slots owners line → x ≡ y
+PassedFixed =
+    (due : Due) (number slots : ℕ) (owners line : List ℕ) (x y : Option Passed) → x ≡ passes due number slots owners line → y ≡ passes due number slots owners line → x ≡ y

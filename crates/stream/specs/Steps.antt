@@ -1,20 +1,20 @@
 -- What one whole line does and says (document 01, The program's lines): the state after it, the owners after it, and what is printed.
 -- Assumes nothing.
-use Rattle.std.specs.Prelude.{Bool, true, false, ◌&&◌, cond, List, ◌++◌, ℕ, ◌+◌, ltb, leb, length, take, drop, replicate}
+use Rattle.std.specs.Prelude.{Bool, true, false, ◌&&◌, cond, Result, Ok, Err, List, ◌++◌, ℕ, ◌+◌, ltb, leb, length, take, drop, replicate}
 use Rattle.base.specs.Sizes.{slots_fit}
 use Rattle.roster.specs.Changes.{none}
-use Rattle.events.specs.declared.Reply.{Reply}
-use Rattle.events.specs.Events.{reply_of, table_after}
-use Rattle.find.specs.declared.Found.{Found}
-use Rattle.find.specs.Reply.{found}
+use Rattle.events.specs.Events.{Reply, reply_of, table_after}
+use Rattle.find.specs.Reply.{Found, found}
 use Rattle.lines.specs.declared.Due.{Due}
 use Rattle.lines.specs.declared.Due.TheVariants.{Slots, Opening}
 use Rattle.lines.specs.declared.Record.{Record}
 use Rattle.lines.specs.declared.Record.TheVariants.{Change, Find, Comment}
 use Rattle.lines.specs.declared.Read.{Read}
-use Rattle.lines.specs.declared.Read.TheVariants.{Count, Part, Whole, Malformed}
+use Rattle.lines.specs.declared.Read.TheVariants.{Count, Part, Whole}
+use Rattle.lines.specs.declared.Malformed.{Malformed}
 use Rattle.lines.specs.Lines.{key_of, read_line}
 use Rattle.stream.specs.declared.State.{State}
+use Rattle.stream.specs.declared.Said.{Said}
 use Rattle.stream.specs.declared.Said.TheVariants.{Nothing, Moved, Owner, Wrong}
 use Rattle.stream.specs.declared.Taken.{Taken}
 
@@ -57,8 +57,11 @@ changes s reply = record {
 }
 
 -- sentence 11: a find prints its answer, the slot and the host
+abbrev pub found_says : Found → Said
+found_says f = Owner f.answer f.slot f.host
+
 abbrev pub finds : State → Found → Taken
-finds s f = record { state = goes_on s Opening; said = Owner f.answer f.slot f.host }
+finds s f = record { state = goes_on s Opening; said = found_says f }
 
 -- a record that is no change: a find, or a comment, which prints nothing
 abbrev pub asked : State → List ℕ → List ℕ → Record → Taken
@@ -78,17 +81,17 @@ owners_answered s owners Find = owners
 owners_answered s owners Comment = owners
 
 -- what a line brings, done; sentence 9: a malformed line prints 13 with its number, and stops
-abbrev pub does : State → List ℕ → List ℕ → Read → Taken
-does s owners line (Count slots) = begins s owners slots
-does s owners line (Part due) = record { state = goes_on s due; said = Nothing }
-does s owners line (Whole whole) = answered s owners line whole
-does s owners line (Malformed number) = record { state = halted s; said = Wrong number }
+abbrev pub does : State → List ℕ → List ℕ → Result Read Malformed → Taken
+does s owners line (Ok (Count slots)) = begins s owners slots
+does s owners line (Ok (Part due)) = record { state = goes_on s due; said = Nothing }
+does s owners line (Ok (Whole whole)) = answered s owners line whole
+does s owners line (Err at_line) = record { state = halted s; said = Wrong at_line.line }
 
-abbrev pub owners_done : State → List ℕ → Read → List ℕ
-owners_done s owners (Count slots) = owners_begun owners slots
-owners_done s owners (Part due) = owners
-owners_done s owners (Whole whole) = owners_answered s owners whole
-owners_done s owners (Malformed number) = owners
+abbrev pub owners_done : State → List ℕ → Result Read Malformed → List ℕ
+owners_done s owners (Ok (Count slots)) = owners_begun owners slots
+owners_done s owners (Ok (Part due)) = owners
+owners_done s owners (Ok (Whole whole)) = owners_answered s owners whole
+owners_done s owners (Err at_line) = owners
 
 -- a whole line: once the stream has stopped nothing more is read
 unfoldable pub takes : State → List ℕ → List ℕ → Taken

@@ -3,7 +3,7 @@
 use mathlib.Core.Path.{◌≡◌, refl, sym, ap, ◌∙◌, subst}
 use mathlib.Core.Bool.{true, false}
 use mathlib.Core.List.{List, [], ◌∷◌}
-use Prim.Native.Nat.{ℕ, zero, suc, ◌≤◌, ◌<◌}
+use Prim.Native.Nat.{ℕ, zero, suc, ◌≤◌, ◌<◌, max}
 use native.Mathlib.Nat.{not-suc-le-zero, pos_of_ne-zero, le_of_eq, le_of_suc-le-suc}
 use native.Mathlib.Omega.{arith}
 use lib.Dec.{leb, eqb}
@@ -89,6 +89,12 @@ module _ (r : Roster) (v : valid r ≡ true) where
       (λ t. rw (owners-none r t) (omega arith))
       (λ w. rw (owners_some r w, length_hosts r f) f.few)
 
+  pub owners-count : max r.count 1 ≡ length (owners r)
+  owners-count =
+      by_test (no_hosts r)
+      (λ t. let none : r.count ≡ 0 = eqb-true r.count 0 t in rw (owners-none r t, none) refl)
+      (λ w. let some = some_hosts w in rw (owners_some r w, length_hosts r f) (omega arith))
+
   pub known_owner : (owner : ℕ) → known r owner ≡ is_on (owners r) owner
   unfolding known
   known_owner owner =
@@ -125,9 +131,6 @@ module _ (r : Roster) (v : valid r ≡ true) where
     pub front_owners : take n r.hosts ≡ owners r
     front_owners = ap (λ k. take k r.hosts) e ∙ sym owners_front
 
-    pub front_fits : n ≤ length r.hosts
-    front_fits = omega (arith, owners-few, f.hosts_long)
-
     pub front_rise : Rises (take n r.hosts)
     front_rise = rw front_owners owners-rise
 
@@ -137,12 +140,6 @@ module _ (r : Roster) (v : valid r ≡ true) where
 
       pub shares_fit : n ≤ length l
       shares_fit = omega (arith, owners-few, ap length given ∙ length-padded 256 (shares r S) (rw (shares_each S) owners-few))
-
-      pub front_each : length (take n l) ≡ length (take n r.hosts)
-      front_each = ap length front_shares ∙ shares_each S ∙ ap length (sym front_owners)
-
-      pub front_fitting : (slots : List ℕ) → length slots ≡ S → Fitting (take n r.hosts) (take n l) slots
-      front_fitting slots h = rw (front_owners, front_shares) (fitting S slots h)
 
   -- a table belongs exactly where each owner holds its share ------------------------------
 

@@ -1,6 +1,6 @@
 -- What the calls on a table answer, case by case.
 -- Assumes nothing.
-use mathlib.Core.Path.{◌≡◌, refl, sym, ap, ap₂, ◌∙◌, fun_ext}
+use mathlib.Core.Path.{◌≡◌, refl, sym, ap, ap₂, ◌∙◌, subst, fun_ext}
 use mathlib.Core.Bool.{true, false, ◌&&◌, not, cond}
 use mathlib.Core.Logic.{⊎_elim}
 use mathlib.Core.List.{List}
@@ -10,20 +10,27 @@ use native.Mathlib.Omega.{arith}
 use lib.Dec.{leb, eqb}
 use lib.ListN.{length}
 use borrow.Author.Tests.{eq-eqb, ne_eqb, eqb-true, leb-true}
+use Rattle.std.specs.Prelude.{Result, Ok, Err}
+use Rattle.base.specs.declared.Refusal.{Refusal}
+use Rattle.base.specs.Refusals.{number_of, answer_of}
 use Rattle.base.specs.Rows.{lowest, rises_from}
 use Rattle.base.specs.Sizes.{slots_fit}
 use Rattle.base.specs.Tables.{first, at}
 use Rattle.base.proofs.Answers.{lowest_stop, lowest_go}
+use Rattle.base.proofs.Refusals.{told_once, number_not_zero, same_reason}
 use Rattle.base.proofs.Sums.{count_none}
 use Rattle.base.proofs.Tests.{by_test, and_left, and_right, first-none}
 use Rattle.roster.specs.declared.Roster.{Roster}
+use Rattle.roster.specs.declared.valid_roster.ValidRoster.{ValidRoster}
 use Rattle.roster.specs.Roster.{valid, is_on}
+use Rattle.roster.specs.Valid.{ChecksRoster}
 use Rattle.mover.specs.Mover.{changes}
-use Rattle.table.specs.declared.Checked.{Checked}
-use Rattle.table.specs.declared.Moved.{Moved}
 use Rattle.table.specs.Table.{belongs, stranger, owners, fresh, rearranged, freed_slots}
-use Rattle.table.specs.Answers.{size_rows, table_rows, check_answer, checked, layout_answer, laid_out, move_answer, moved_to, move_reply}
-use Rattle.table.specs.Laws.{Sized, RowsRise, CheckFixed, LayoutFixed, MoveFixed}
+use Rattle.table.specs.Answers.{Checked, Moved, size_rows, table_rows, check_answer, checked, layout_answer, laid_out, move_answer, moved_to, move_reply}
+use Rattle.table.specs.declared.misfit.Misfit.{Misfit}
+use Rattle.table.specs.declared.misfit.Misfit.TheVariants.{Refused, WrongTable}
+use Rattle.table.specs.Told.{reason_of, slot_of, WithSlot, told_move}
+use Rattle.table.specs.Laws.{Sized, RowsRise, CheckFixed, LayoutFixed, MoveFixed, CheckTold, LayoutTold, MoveTold}
 use Rattle.table.proofs.Owners.{known_owner, belongs_exact}
 use Rattle.table.proofs.Moves.{belongs-none-freed, none-freed-belongs, fewest_moves}
 
@@ -52,12 +59,18 @@ unfolding lowest
 sized_sizes r S slots z = rw (z.count_fits, eq-eqb _ _ z.that_long, z.valid_roster)
 
 -- 1 or 2 where one is
-sizes_low : (r : Roster) (S n : ℕ) → lowest (size_rows r S n) ≤ 2
+pub sizes_low : (r : Roster) (S n : ℕ) → lowest (size_rows r S n) ≤ 2
 unfolding lowest
 sizes_low r S n =
     by_test (slots_fit S && eqb n S)
     (λ t. by_test (valid r) (λ v. rw (t, v) (omega arith)) (λ w. rw (t, w) (omega arith)))
     (λ w. rw w (omega arith))
+
+-- what the call that checks the sizes answers, past the tests of the slot count
+pub sizes_told : (r : Roster) (S n : ℕ) (checked : Result ValidRoster Refusal) → slots_fit S ≡ true → n ≡ S → ChecksRoster r checked → answer_of checked ≡ lowest (size_rows r S n)
+unfolding lowest
+sizes_told r S n (Ok v) fits e same = let right : valid r ≡ true = subst (λ x. valid x ≡ true) same v.valid in rw (fits, eq-eqb _ _ e, right)
+sizes_told r S n (Err reason) fits e wrong = ap number_of wrong.0 ∙ rw (fits, eq-eqb _ _ e, wrong.1)
 
 -- the check ---------------------------------------------------------------------------------
 
@@ -183,3 +196,22 @@ layout_fixed r S slots a b t u p q v w = (p ∙ sym q, v ∙ sym w)
 
 pub move_fixed : MoveFixed
 move_fixed r S slots x y t u p q v w = (p ∙ sym q, v ∙ sym w)
+
+-- a reason and a slot are told by the number and the slot
+same_misfit : (d e : Misfit) → WithSlot (Err d) → WithSlot (Err e) → reason_of d ≡ reason_of e → slot_of d ≡ slot_of e → d ≡ e
+same_misfit (Refused d) (Refused e) s t h k = ap Refused h
+same_misfit (Refused d) (WrongTable j) s t h k = absurd (s (ap (λ r. Err (Refused r)) h))
+same_misfit (WrongTable i) (Refused e) s t h k = absurd (t (ap (λ r. Err (Refused r)) (sym h)))
+same_misfit (WrongTable i) (WrongTable j) s t h k = ap (λ n. WrongTable n) k
+
+pub check_told : CheckTold
+check_told (Ok x) (Ok y) s t h = refl
+check_told (Ok x) (Err e) s t h = absurd (number_not_zero (reason_of e) (sym (ap (λ c. c.answer) h)))
+check_told (Err d) (Ok y) s t h = absurd (number_not_zero (reason_of d) (ap (λ c. c.answer) h))
+check_told (Err d) (Err e) s t h = ap Err (same_misfit d e s t (same_reason (reason_of d) (reason_of e) (ap (λ c. c.answer) h)) (ap (λ c. c.slot) h))
+
+pub layout_told : LayoutTold
+layout_told = told_once answer_of (λ n. n) (λ done. refl) (λ reason. refl) (λ a b h. refl)
+
+pub move_told : MoveTold
+move_told = told_once told_move (λ m. m.answer) (λ count. refl) (λ reason. refl) (λ a b h. ap (λ m. m.count) h)

@@ -11,8 +11,9 @@ use native.Mathlib.Omega.{arith, by_contra}
 use native.Mathlib.Decide.{ℕ_discrete, dec_lt}
 use lib.Dec.{eqb}
 use lib.ListN.{length, drop, set, replicate, length-set, drop_of_length-le}
-use lib.Seq.{drop-cons, drop-drop, get_or-drop, get_or-set_same, get_or-set_other, set-get_or, take_all}
+use lib.Seq.{drop-cons, drop-drop, get_or-drop, get_or-set_same, get_or-set_other, take_all}
 use borrow.Author.Tests.{eq-eqb, ne_eqb}
+use Rattle.std.specs.Prelude.{Option, Some, None, IsSome}
 use Rattle.base.specs.Tables.{one_if, at}
 use Rattle.base.proofs.Tests.{by_test}
 use Rattle.base.proofs.Entries.{is_table, overlay, overlay_next, overlay_done, at_overlay}
@@ -22,7 +23,7 @@ use Rattle.mover.specs.Mover.{held, quota_of, lack, lacks, runs}
 use Rattle.mover.specs.Pass.{lowered, pass, frees, room_after}
 use Rattle.mover.proofs.Passes.{lowered-same, lowered_other, lowered-zero, length-pass, room_after_lem}
 use Rattle.mover.proofs.Laws.{quota_on, quota_off, quota-host, host_on}
-use Rattle.table.specs.Seat.{Seat, NextShort}
+use Rattle.table.specs.Seat.{SeatAt, ShortAt, NextShort}
 
 -- the room as a list ----------------------------------------------------------------------
 
@@ -43,17 +44,17 @@ list_lowered hosts room rises e p h l here k =
     (λ f. quota_off hosts (set room p (at room p - 1)) k f ∙ sym (quota_off hosts room k f) ∙ sym (lowered_other (quota_of hosts room) h k ne)))
 
 -- what a seat tells
-module _ (hosts room : List ℕ) (rises : Rises hosts) (e : length room ≡ length hosts) (owner p : ℕ) (s : Seat hosts room owner p) where
-  pub keeps_room : p < length hosts → eqb (quota_of hosts room owner) 0 ≡ false
-  keeps_room l =
-      ne_eqb (quota_of hosts room owner) 0 (λ z. let v = s.has_room l in
-      let q : quota_of hosts room owner ≡ at room p = ap (quota_of hosts room) (sym (s.there l)) ∙ quota-host hosts room rises p l in omega arith)
+module _ (hosts room : List ℕ) (rises : Rises hosts) (e : length room ≡ length hosts) (owner p : ℕ) (s : SeatAt hosts room owner p) where
+  pub keeps_room : eqb (quota_of hosts room owner) 0 ≡ false
+  keeps_room =
+      ne_eqb (quota_of hosts room owner) 0 (λ z.
+      let q : quota_of hosts room owner ≡ at room p = ap (quota_of hosts room) (sym s.there) ∙ quota-host hosts room rises p s.within in omega (arith, s.has_room))
 
-  pub keeps_lowered : p < length hosts → lowered (quota_of hosts room) owner ≡ quota_of hosts (set room p (at room p - 1))
-  keeps_lowered l = sym (fun_ext (list_lowered hosts room rises e p owner l (s.there l)))
+  pub keeps_lowered : lowered (quota_of hosts room) owner ≡ quota_of hosts (set room p (at room p - 1))
+  keeps_lowered = sym (fun_ext (list_lowered hosts room rises e p owner s.within s.there))
 
-  pub frees-lowered : length hosts ≤ p → lowered (quota_of hosts room) owner ≡ quota_of hosts room
-  frees-lowered l = fun_ext (lowered-zero (quota_of hosts room) owner (s.nowhere l))
+pub frees-lowered : (hosts room : List ℕ) (owner : ℕ) → quota_of hosts room owner ≡ 0 → lowered (quota_of hosts room) owner ≡ quota_of hosts room
+frees-lowered hosts room owner z = fun_ext (lowered-zero (quota_of hosts room) owner z)
 
 -- the tally ---------------------------------------------------------------------------------
 
@@ -67,7 +68,7 @@ pub record Tallied (hosts room₀ slots room : List ℕ) (freed i : ℕ) : Type 
 pub tally_start : (hosts room slots : List ℕ) → length room ≡ length hosts → Tallied hosts room slots room 0 0
 tally_start hosts room slots e = record { upto = zero-le; few = zero-le; as_long = e; counted = zero-add _; left = λ k. refl }
 
-module _ {hosts room₀ slots room : List ℕ} {freed i : ℕ} (rises : Rises hosts) (w : Tallied hosts room₀ slots room freed i) (l : i < length slots) (p : ℕ) (s : Seat hosts room (at slots i) p) where
+module _ {hosts room₀ slots room : List ℕ} {freed i : ℕ} (rises : Rises hosts) (w : Tallied hosts room₀ slots room freed i) (l : i < length slots) where
   abbrev h : ℕ
   h = at slots i
 
@@ -82,10 +83,10 @@ module _ {hosts room₀ slots room : List ℕ} {freed i : ℕ} (rises : Rises ho
   unfolding room_after
   room_here k = ap (λ d. room_after (quota_of hosts room) d k) further
 
-  pub tally_kept : p < length hosts → Tallied hosts room₀ slots (set room p (at room p - 1)) freed (i + 1)
-  tally_kept k =
-      let none : one_if (eqb (quota_of hosts room h) 0) ≡ 0 = ap one_if (keeps_room hosts room rises w.as_long h p s k) in
-      let lower = keeps_lowered hosts room rises w.as_long h p s k in
+  pub tally_kept : (p : ℕ) → SeatAt hosts room (at slots i) p → Tallied hosts room₀ slots (set room p (at room p - 1)) freed (i + 1)
+  tally_kept p s =
+      let none : one_if (eqb (quota_of hosts room h) 0) ≡ 0 = ap one_if (keeps_room hosts room rises w.as_long h p s) in
+      let lower = keeps_lowered hosts room rises w.as_long h p s in
       record {
         upto = omega arith;
         few = omega (arith, w.few);
@@ -94,10 +95,10 @@ module _ {hosts room₀ slots room : List ℕ} {freed i : ℕ} (rises : Rises ho
         left = λ x. ap (λ q. room_after q (drop (i + 1) slots) x) (sym lower) ∙ sym (room_here x) ∙ w.left x;
       }
 
-  pub tally_freed : length hosts ≤ p → Tallied hosts room₀ slots room (freed + 1) (i + 1)
-  tally_freed k =
-      let one : one_if (eqb (quota_of hosts room h) 0) ≡ 1 = ap one_if (eq-eqb (quota_of hosts room h) 0 (s.nowhere k)) in
-      let lower = frees-lowered hosts room rises w.as_long h p s k in
+  pub tally_freed : quota_of hosts room (at slots i) ≡ 0 → Tallied hosts room₀ slots room (freed + 1) (i + 1)
+  tally_freed z =
+      let one : one_if (eqb (quota_of hosts room h) 0) ≡ 1 = ap one_if (eq-eqb (quota_of hosts room h) 0 z) in
+      let lower = frees-lowered hosts room h z in
       record {
         upto = omega arith;
         few = omega (arith, w.few);
@@ -188,8 +189,11 @@ module _ {hosts room₀ short₀ slots₀ room short slots : List ℕ} {next i :
   untouched = ap (λ k. at k i) w.entries ∙ at_overlay whole slots₀ i i (rw (length-pass (quota_of hosts room₀) (runs hosts short₀) slots₀) (le_of_lt l)) (le_refl i)
 
   -- so a seat of its owner now is one of its owner at the start
-  pub seated_from : (p : ℕ) → Seat hosts room (at slots i) p → Seat hosts room (at slots₀ i) p
-  seated_from p s = subst (λ owner. Seat hosts room owner p) untouched s
+  pub seated_from : (p : ℕ) → SeatAt hosts room (at slots i) p → SeatAt hosts room (at slots₀ i) p
+  seated_from p s = subst (λ owner. SeatAt hosts room owner p) untouched s
+
+  pub unseated_from : quota_of hosts room (at slots i) ≡ 0 → quota_of hosts room (at slots₀ i) ≡ 0
+  unseated_from z = ap (quota_of hosts room) (sym untouched) ∙ z
 
   long : length whole ≡ length slots₀
   long = length-pass (quota_of hosts room₀) (runs hosts short₀) slots₀
@@ -209,74 +213,79 @@ module _ {hosts room₀ short₀ slots₀ room short slots : List ℕ} {next i :
   written v e = rw (w.entries, e) (overlay_next whole slots₀ i (rw long l) l)
 
   -- an owner that has room keeps the slot
-  module _ (p : ℕ) (s : Seat hosts room (at slots₀ i) p) (k : p < length hosts) where
+  module _ (p : ℕ) (s : SeatAt hosts room (at slots₀ i) p) where
     step_kept : result hosts room short (drop i slots₀) ≡ at slots₀ i ∷ result hosts (set room p (at room p - 1)) short (drop (i + 1) slots₀)
     unfolding pass
     step_kept =
         ap (pass q (runs hosts short)) further₀
-        ∙ rw (keeps_room hosts room rises w.a_room_each (at slots₀ i) p s k)
-        (ap (λ g. at slots₀ i ∷ pass g (runs hosts short) (drop (i + 1) slots₀)) (keeps_lowered hosts room rises w.a_room_each (at slots₀ i) p s k))
+        ∙ rw (keeps_room hosts room rises w.a_room_each (at slots₀ i) p s)
+        (ap (λ g. at slots₀ i ∷ pass g (runs hosts short) (drop (i + 1) slots₀)) (keeps_lowered hosts room rises w.a_room_each (at slots₀ i) p s))
 
     fewer_kept : frees q (drop i slots₀) ≡ frees (quota_of hosts (set room p (at room p - 1))) (drop (i + 1) slots₀)
     unfolding frees
     fewer_kept =
         ap (frees q) further₀
-        ∙ rw (keeps_room hosts room rises w.a_room_each (at slots₀ i) p s k)
-        (zero-add _ ∙ ap (λ g. frees g (drop (i + 1) slots₀)) (keeps_lowered hosts room rises w.a_room_each (at slots₀ i) p s k))
+        ∙ rw (keeps_room hosts room rises w.a_room_each (at slots₀ i) p s)
+        (zero-add _ ∙ ap (λ g. frees g (drop (i + 1) slots₀)) (keeps_lowered hosts room rises w.a_room_each (at slots₀ i) p s))
 
-    pub hand_kept : Handed hosts room₀ short₀ slots₀ (set room p (at room p - 1)) short slots next (i + 1)
+    pub hand_kept : Handed hosts room₀ short₀ slots₀ (set room p (at room p - 1)) short (set slots i (at slots i)) next (i + 1)
     hand_kept = record {
       upto = omega arith;
       cursor = w.cursor;
       a_room_each = length-set room p _ ∙ w.a_room_each;
       a_lack_each = w.a_lack_each;
-      as_long = w.as_long;
+      as_long = length-set slots i _ ∙ w.as_long;
       none-behind = w.none-behind;
-      entries = sym (set-get_or slots i 0) ∙ ap (set slots i) untouched ∙ written (at slots₀ i) (sym (head_is _ _ step_kept));
+      entries = ap (set slots i) untouched ∙ written (at slots₀ i) (sym (head_is _ _ step_kept));
       rest = tail_is _ _ step_kept;
       enough = rw (← fewer_kept) w.enough;
     }
 
   -- any other slot goes to the next host that is short
-  module _ (p : ℕ) (s : Seat hosts room (at slots₀ i) p) (k : length hosts ≤ p) (c : ℕ) (n : NextShort short next c) where
+  module _ (z : quota_of hosts room (at slots₀ i) ≡ 0) where
     fewer_freed : frees q (drop i slots₀) ≡ 1 + frees q (drop (i + 1) slots₀)
     unfolding frees
     fewer_freed =
         ap (frees q) further₀
-        ∙ rw (eq-eqb (q (at slots₀ i)) 0 (s.nowhere k)) (ap (λ g. 1 + frees g (drop (i + 1) slots₀)) (frees-lowered hosts room rises w.a_room_each (at slots₀ i) p s k))
+        ∙ rw (eq-eqb (q (at slots₀ i)) 0 z) (ap (λ g. 1 + frees g (drop (i + 1) slots₀)) (frees-lowered hosts room (at slots₀ i) z))
 
-    none_before : (j : ℕ) → j < c → at short j ≡ 0
-    none_before j h = by_cases (dec_lt j next) (w.none-behind j) (λ v. n.none_between j (by_contra _ _ v) h)
+    -- so some host is short
+    pub some_short : (answer : Option ℕ) → NextShort short next answer → IsSome answer
+    some_short (Some c) n = refl
+    some_short None none =
+        let zeros = runs_none hosts short (λ j l. by_cases (dec_lt j next) (w.none-behind j) (λ v. none j (by_contra _ _ v) l)) in
+        absurd (omega (arith, ap length zeros, w.enough, fewer_freed))
 
-    pub some_short : c < length hosts
-    some_short =
-        by_contra _ _ λ v.
-        let none = runs_none hosts short (λ j h. none_before j (omega (arith, w.a_lack_each))) in
-        omega (arith, ap length none, w.enough, fewer_freed)
+    module _ (c : ℕ) (n : ShortAt short next c) where
+      none_before : (j : ℕ) → j < c → at short j ≡ 0
+      none_before j h = by_cases (dec_lt j next) (w.none-behind j) (λ v. n.none_between j (by_contra _ _ v) h)
 
-    given : runs hosts short ≡ at hosts c ∷ runs hosts (set short c (at short c - 1))
-    given = runs-next hosts short w.a_lack_each c none_before some_short (n.short (rw w.a_lack_each some_short))
+      on_list : c < length hosts
+      on_list = omega (arith, n.within, w.a_lack_each)
 
-    step_freed : result hosts room short (drop i slots₀) ≡ at hosts c ∷ result hosts room (set short c (at short c - 1)) (drop (i + 1) slots₀)
-    unfolding pass
-    step_freed =
-        ap (λ x. pass q x (drop i slots₀)) given
-        ∙ ap (pass q (at hosts c ∷ runs hosts (set short c (at short c - 1)))) further₀
-        ∙ rw (eq-eqb (q (at slots₀ i)) 0 (s.nowhere k))
-        (ap (λ g. at hosts c ∷ pass g (runs hosts (set short c (at short c - 1))) (drop (i + 1) slots₀)) (frees-lowered hosts room rises w.a_room_each (at slots₀ i) p s k))
+      given : runs hosts short ≡ at hosts c ∷ runs hosts (set short c (at short c - 1))
+      given = runs-next hosts short w.a_lack_each c none_before on_list n.short
 
-    pub hand_freed : Handed hosts room₀ short₀ slots₀ room (set short c (at short c - 1)) (set slots i (at hosts c)) c (i + 1)
-    hand_freed = record {
-      upto = omega arith;
-      cursor = le_of_lt some_short;
-      a_room_each = w.a_room_each;
-      a_lack_each = length-set short c _ ∙ w.a_lack_each;
-      as_long = length-set slots i _ ∙ w.as_long;
-      none-behind = λ j h. get_or-set_other short c j _ 0 (λ e. lt_irrefl c (subst (λ x. x < c) e h)) ∙ none_before j h;
-      entries = written (at hosts c) (sym (head_is _ _ step_freed));
-      rest = tail_is _ _ step_freed;
-      enough = omega (arith, ap length given, w.enough, fewer_freed);
-    }
+      step_freed : result hosts room short (drop i slots₀) ≡ at hosts c ∷ result hosts room (set short c (at short c - 1)) (drop (i + 1) slots₀)
+      unfolding pass
+      step_freed =
+          ap (λ x. pass q x (drop i slots₀)) given
+          ∙ ap (pass q (at hosts c ∷ runs hosts (set short c (at short c - 1)))) further₀
+          ∙ rw (eq-eqb (q (at slots₀ i)) 0 z)
+          (ap (λ g. at hosts c ∷ pass g (runs hosts (set short c (at short c - 1))) (drop (i + 1) slots₀)) (frees-lowered hosts room (at slots₀ i) z))
+
+      pub hand_freed : Handed hosts room₀ short₀ slots₀ room (set short c (at short c - 1)) (set slots i (at hosts c)) c (i + 1)
+      hand_freed = record {
+        upto = omega arith;
+        cursor = le_of_lt on_list;
+        a_room_each = w.a_room_each;
+        a_lack_each = length-set short c _ ∙ w.a_lack_each;
+        as_long = length-set slots i _ ∙ w.as_long;
+        none-behind = λ j h. get_or-set_other short c j _ 0 (λ e. lt_irrefl c (subst (λ x. x < c) e h)) ∙ none_before j h;
+        entries = written (at hosts c) (sym (head_is _ _ step_freed));
+        rest = tail_is _ _ step_freed;
+        enough = omega (arith, ap length given, w.enough, fewer_freed);
+      }
 
 pub hand_done : {hosts room₀ short₀ slots₀ room short slots : List ℕ} {next i : ℕ} → Handed hosts room₀ short₀ slots₀ room short slots next i → length slots₀ ≤ i →
     slots ≡ result hosts room₀ short₀ slots₀

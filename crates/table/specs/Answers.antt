@@ -6,9 +6,17 @@ use Rattle.base.specs.Sizes.{slots_fit}
 use Rattle.roster.specs.declared.Roster.{Roster}
 use Rattle.roster.specs.Roster.{valid}
 use Rattle.mover.specs.Mover.{changes}
-use Rattle.table.specs.declared.Checked.{Checked}
-use Rattle.table.specs.declared.Moved.{Moved}
 use Rattle.table.specs.Table.{belongs, stranger, fresh, rearranged}
+
+-- what the check of a table tells: the number, and the slot that goes with 3
+pub record Checked : Type 0 where
+  pub answer : ℕ
+  pub slot : ℕ
+
+-- what a move tells: the number, and how many slots changed owner
+pub record Moved : Type 0 where
+  pub answer : ℕ
+  pub count : ℕ
 
 -- 1: the slot count is outside 1 to 16,384, or the table's length is not the slot count; 2: the roster breaks a rule
 abbrev pub size_rows : Roster → ℕ → ℕ → List Row

@@ -1,15 +1,17 @@
 -- What the calls on a table promise, as statements; the function `promises` holds them all.
 -- Assumes nothing.
-use Rattle.std.specs.Prelude.{◌≡◌, true, List, ◌++◌, ℕ, ◌≤◌, length, replicate}
+use Rattle.std.specs.Prelude.{◌≡◌, true, List, ◌++◌, ℕ, ◌≤◌, Result, length, replicate}
+use Rattle.base.specs.declared.Refusal.{Refusal}
+use Rattle.base.specs.Refusals.{answer_of}
 use Rattle.base.specs.Rows.{rises_from}
 use Rattle.base.specs.Sizes.{slots_fit}
 use Rattle.roster.specs.declared.Roster.{Roster}
 use Rattle.roster.specs.Roster.{valid}
 use Rattle.mover.specs.Mover.{changes}
-use Rattle.table.specs.declared.Checked.{Checked}
-use Rattle.table.specs.declared.Moved.{Moved}
 use Rattle.table.specs.Table.{no_hosts, belongs, fresh, rearranged, freed_slots, lacked_slots}
-use Rattle.table.specs.Answers.{size_rows, table_rows, checked, layout_answer, laid_out, moved_to, move_reply}
+use Rattle.table.specs.declared.misfit.Misfit.{Misfit}
+use Rattle.table.specs.Told.{told_check, told_move, WithSlot}
+use Rattle.table.specs.Answers.{Checked, Moved, size_rows, table_rows, checked, layout_answer, laid_out, moved_to, move_reply}
 
 -- a valid roster, a slot count in range, and a table of that length
 pub record Sized (r : Roster) (S : ℕ) (slots : List ℕ) : Type 0 where
@@ -65,3 +67,13 @@ abbrev pub MoveFixed : Type 0
 MoveFixed =
     (r : Roster) (S : ℕ) (slots : List ℕ) (x y : Moved) (t u : List ℕ) → x ≡ move_reply r S slots → y ≡ move_reply r S slots →
     t ≡ moved_to r S slots → u ≡ moved_to r S slots → (x ≡ y) × (t ≡ u)
+
+-- and results that tell the same reply are the same
+abbrev pub CheckTold : Type 0
+CheckTold = (x y : Result (Unit {0}) Misfit) → WithSlot x → WithSlot y → told_check x ≡ told_check y → x ≡ y
+
+abbrev pub LayoutTold : Type 0
+LayoutTold = (x y : Result (Unit {0}) Refusal) → answer_of x ≡ answer_of y → x ≡ y
+
+abbrev pub MoveTold : Type 0
+MoveTold = (x y : Result ℕ Refusal) → told_move x ≡ told_move y → x ≡ y

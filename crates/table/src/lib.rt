@@ -1,276 +1,105 @@
 // The table of slots: a lent run of 16-bit owners. Does it belong to a roster, a fresh layout, and the move to a roster's shares.
 #![tactic(auto)]
 
-ghost use Rattle.std.specs.Prelude.{◌≡◌, true, not, ◌≤◌, ◌<◌, length, replicate};
-ghost use Rattle.base.specs.Tables.{first, at};
+ghost use Rattle.std.specs.Prelude.{◌≡◌, true, length, replicate, IfOk};
 ghost use Rattle.base.specs.Lists.{padded};
 ghost use Rattle.base.specs.Sizes.{slots_fit};
+ghost use Rattle.base.specs.Refusals.{answer_of};
 ghost use Rattle.base.specs.Rows.{lowest};
-ghost use Rattle.roster.specs.Roster.{valid, is_on, Rises};
-ghost use Rattle.mover.specs.Mover.{quota_of, lacks, runs, freed_below, moved};
-ghost use Rattle.mover.specs.Laws.{Fitting};
-ghost use Rattle.mover.specs.Pass.{pass, frees};
-ghost use Rattle.table.specs.Table.{owners, shares};
+ghost use Rattle.table.specs.Table.{shares, rearranged, freed_slots};
 ghost use Rattle.table.specs.Answers as answers;
+ghost use Rattle.table.specs.Told.{told_check, told_move, WithSlot};
 ghost use Rattle.table.specs.Laws.{FreshBelongs, RearrangedBelongs, NoHostsZero, BelongingStays, FewestMoves, FreedIsLacked, RowsRise};
-ghost use Rattle.table.specs.Laws.{CheckFixed, LayoutFixed, MoveFixed};
-ghost use Rattle.table.specs.Seat.{Seat, NextShort};
+ghost use Rattle.table.specs.Laws.{Sized, CheckFixed, LayoutFixed, MoveFixed, CheckTold, LayoutTold, MoveTold};
 
-use roster::Roster;
+mod misfit;
+mod owning;
 
-// What the check of a table answers: the number, and the slot that goes with 3.
-#[derive(Clone, Copy)]
-pub struct Checked {
-    pub answer: u32,
-    pub slot: usize,
-}
+use base::Refusal;
+pub use misfit::Misfit;
+use owning::Owners;
+use roster::{Roster, ValidRoster};
 
-// What a move answers: the number, and how many slots changed owner.
-#[derive(Clone, Copy)]
-pub struct Moved {
-    pub answer: u32,
-    pub count: u32,
-}
-
-// The rows of sizes, which every call checks first.
-fn sizes_answer(r: Roster, slots: u32, length: usize) -> u32
-    ensures { result ≡ lowest (answers.size_rows r slots length) }
+// The rows of sizes, which every call checks first; with them right, the roster as one that breaks no rule.
+// Each call begins with its own two lines of this, since its rows stand in its own table; and roster and slot count stay apart, as public signatures hand them in.
+fn sized(r: Roster, slots: u32, length: usize) -> Result<ValidRoster, Refusal>
+    ensures answer { answer_of result ≡ lowest (answers.size_rows r slots length) }
+    ensures same { IfOk result (λ v. v.roster ≡ r) }
 {
-    if !base::slots_fit(slots) {
-        return 1;
+    if !base::slots_fit(slots) || length != slots as usize {
+        return Err(Refusal::SlotCount);
     }
-    if length != slots as usize {
-        return 1;
-    }
-    if !roster::valid(r) {
-        return 2;
-    }
-    0
-}
-
-// How many own slots: the hosts, or nobody alone.
-fn owner_count(r: Roster) -> usize
-    requires { valid r ≡ true }
-    ensures { result ≡ length (owners r) }
-{
-    let n = r.count;
-    if n == 0 {
-        return 1;
-    }
-    n
-}
-
-// Zeros. A function of its own, so that no proof has to carry 256 of them.
-fn zeros() -> [u32; 256]
-    ensures { result ≡ replicate 256 0 }
-{
-    [0u32; 256]
+    ValidRoster::try_from(r)
 }
 
 // How many slots each owner has a right to, with zeros behind them.
-fn share_list(r: Roster, slots: u32) -> [u32; 256]
-    requires { (valid r ≡ true) × (slots_fit slots ≡ true) }
-    ensures { result ≡ padded 256 (shares r slots) }
+fn share_list(v: &ValidRoster, slots: u32) -> [u32; 256]
+    requires { slots_fit slots ≡ true }
+    ensures { result ≡ padded 256 (shares v.now.roster slots) }
 {
-    let n = r.count;
-    if n == 0 {
-        let mut all = zeros();
+    if v.roster.count == 0 {
+        let mut all = base::filled(0);
         all[0] = slots;
         return all;
     }
-    let rates = r.rates;
-    quota::quotas(&rates[..n], slots)
-}
-
-// The first slot whose owner is not among the hosts: slots outside, the search by halves inside.
-fn first_stranger(hosts: &[u16], table: &[u16]) -> usize
-    requires { Rises hosts.now }
-    ensures { result ≡ first (length table.now) (λ i. not (is_on hosts.now (at table.now i))) }
-{
-    let mut i = 0;
-    let found = 'slots: loop {
-        if table.len() <= i {
-            break 'slots i;
-        }
-        let owner = table[i];
-        let mut lo = 0;
-        let mut hi = hosts.len();
-        loop {
-            if hi <= lo {
-                break 'slots i;
-            }
-            let mid = lo + (hi - lo) / 2;
-            let host = hosts[mid];
-            if host == owner {
-                break;
-            }
-            if host < owner {
-                lo = mid + 1;
-            } else {
-                hi = mid;
-            }
-        }
-        i += 1;
-    };
-    found
-}
-
-// Where an owner that has room left stands, or the number of hosts.
-fn seat(hosts: &[u16], room: &[u32], owner: u16) -> usize
-    requires { Rises hosts.now × (length room.now ≡ length hosts.now) }
-    ensures { Seat hosts.now room.now owner result }
-{
-    let n = hosts.len();
-    let p = roster::place(hosts, owner);
-    if n <= p {
-        return n;
-    }
-    if hosts[p] != owner {
-        return n;
-    }
-    if room[p] == 0 {
-        return n;
-    }
-    p
-}
-
-// Counts the slots that would be freed. What is left of the room is what the hosts lack.
-fn tally(hosts: &[u16], room: &mut [u32], table: &[u16]) -> u32
-    requires { Rises hosts.now × (length room.old ≡ length hosts.now) × (length table.now ≤ 16384) }
-    ensures counted { result ≡ frees (quota_of hosts.now room.old) table.now }
-    ensures left { room.new ≡ lacks hosts.now room.old table.now }
-{
-    let mut freed = 0;
-    let mut i = 0;
-    while i < table.len() {
-        let p = seat(hosts, room, table[i]);
-        i += 1;
-        if p < hosts.len() {
-            room[p] -= 1;
-            continue;
-        }
-        freed += 1;
-    }
-    freed
-}
-
-// The first host from a place on that still lacks a slot, or the number of hosts.
-fn next_short(lacks: &[u32], from: usize) -> usize
-    requires { from ≤ length lacks.now }
-    ensures { NextShort lacks.now from result }
-{
-    let mut p = from;
-    while p < lacks.len() {
-        if lacks[p] != 0 {
-            return p;
-        }
-        p += 1;
-    }
-    p
-}
-
-// Hands every slot whose owner has no room to the next host that is short, in one pass.
-fn hand_over(hosts: &[u16], room: &mut [u32], short: &mut [u32], table: &mut [u16])
-    requires known { Rises hosts.now × (length room.old ≡ length hosts.now) × (length short.old ≡ length hosts.now) }
-    requires enough { frees (quota_of hosts.now room.old) table.old ≤ length (runs hosts.now short.old) }
-    ensures { table.new ≡ pass (quota_of hosts.now room.old) (runs hosts.now short.old) table.old }
-{
-    let mut next = 0;
-    let mut i = 0;
-    while i < table.len() {
-        let p = seat(hosts, room, table[i]);
-        if p < hosts.len() {
-            room[p] -= 1;
-            i += 1;
-            continue;
-        }
-        next = next_short(short, next);
-        table[i] = hosts[next];
-        short[next] -= 1;
-        i += 1;
-    }
-}
-
-// Counts what is freed and what each host lacks, which is as many, and hands it over.
-fn move_slots(hosts: &[u16], room: &mut [u32], short: &mut [u32], table: &mut [u16]) -> u32
-    requires fits { Fitting hosts.now room.old table.old × (short.old ≡ room.old) }
-    requires small { length table.old ≤ 16384 }
-    ensures count { result ≡ freed_below hosts.now room.old table.old (length table.old) }
-    ensures slots { table.new ≡ moved hosts.now room.old table.old }
-{
-    let freed = tally(hosts, short, table);
-    hand_over(hosts, room, short, table);
-    freed
+    quota::quotas(v.rates(), slots)
 }
 
 // Gives every slot to nobody.
 pub fn clear(table: &mut [u16])
     ensures { table.new ≡ replicate (length table.old) 0 }
 {
-    let mut i = 0;
-    while i < table.len() {
-        table[i] = 0;
-        i += 1;
-    }
+    table.fill(0);
 }
 
-// Does a table belong to a roster? 3 comes with the first stranger's slot, or the slot count where only a count is wrong.
-pub fn check(r: Roster, slots: u32, table: &[u16]) -> Checked
-    ensures { result ≡ answers.checked r slots table.now }
+// Does a table belong to a roster? A wrong table is told with its slot, so that one reply alone meets this.
+pub fn check(r: Roster, slots: u32, table: &[u16]) -> Result<(), Misfit>
+    ensures reply { told_check result ≡ answers.checked r slots table.now }
+    ensures with_slot { WithSlot result }
 {
-    let a = sizes_answer(r, slots, table.len());
-    if a != 0 {
-        return Checked { answer: a, slot: 0 };
+    let v = sized(r, slots, table.len())?;
+    let owners = Owners::of(&v);
+    if let Some(slot) = owners.first_stranger(table) {
+        return Err(Misfit::WrongTable { slot });
     }
-    let n = owner_count(r);
-    let hosts = r.hosts;
-    let i = first_stranger(&hosts[..n], table);
-    if i < table.len() {
-        return Checked { answer: 3, slot: i };
+    let mut room = share_list(&v, slots);
+    if owners.tally(&mut room[..owners.count()], table) != 0 {
+        return Err(Misfit::WrongTable { slot: table.len() });
     }
-    let mut room = share_list(r, slots);
-    let freed = tally(&hosts[..n], &mut room[..n], table);
-    if freed != 0 {
-        return Checked { answer: 3, slot: i };
-    }
-    Checked { answer: 0, slot: 0 }
+    Ok(())
 }
 
-// Moves a table to a roster's shares, in place, with as few changes as can be.
-pub fn rearrange(r: Roster, slots: u32, table: &mut [u16]) -> Moved
-    ensures reply { result ≡ answers.move_reply r slots table.old }
+// Moves a table to a valid roster's shares, in place, with as few changes as can be; how many slots changed owner.
+fn settle(v: &ValidRoster, slots: u32, table: &mut [u16]) -> u32
+    requires { Sized v.now.roster slots table.old }
+    ensures count { result ≡ freed_slots v.now.roster slots table.old }
+    ensures owners { table.new ≡ rearranged v.now.roster slots table.old }
+{
+    let owners = Owners::of(v);
+    let n = owners.count();
+    let mut room = share_list(v, slots);
+    let mut short = room;
+    owners.move_slots(&mut room[..n], &mut short[..n], table)
+}
+
+// Moves a table to a roster's shares, in place, with as few changes as can be: how many slots changed owner.
+pub fn rearrange(r: Roster, slots: u32, table: &mut [u16]) -> Result<u32, Refusal>
+    ensures reply { told_move result ≡ answers.move_reply r slots table.old }
     ensures owners { table.new ≡ answers.moved_to r slots table.old }
 {
-    let a = sizes_answer(r, slots, table.len());
-    if a != 0 {
-        return Moved {
-            answer: a,
-            count: 0,
-        };
-    }
-    let n = owner_count(r);
-    let hosts = r.hosts;
-    let mut room = share_list(r, slots);
-    let mut short = room;
-    let freed = move_slots(&hosts[..n], &mut room[..n], &mut short[..n], table);
-    Moved {
-        answer: 0,
-        count: freed,
-    }
+    let v = sized(r, slots, table.len())?;
+    Ok(settle(&v, slots, table))
 }
 
 // Lays a table out afresh: each host its quota of consecutive slots, in rising host number.
-pub fn layout(r: Roster, slots: u32, table: &mut [u16]) -> u32
-    ensures answer { result ≡ answers.layout_answer r slots table.old }
+pub fn layout(r: Roster, slots: u32, table: &mut [u16]) -> Result<(), Refusal>
+    ensures answer { answer_of result ≡ answers.layout_answer r slots table.old }
     ensures owners { table.new ≡ answers.laid_out r slots table.old }
 {
-    let a = sizes_answer(r, slots, table.len());
-    if a != 0 {
-        return a;
-    }
+    let v = sized(r, slots, table.len())?;
     clear(table);
-    let m = rearrange(r, slots, table);
-    m.answer
+    settle(&v, slots, table);
+    Ok(())
 }
 
 // The laws of tables: without their proofs this function is not proved.
@@ -278,4 +107,5 @@ pub fn promises()
     ensures belong { FreshBelongs × RearrangedBelongs × NoHostsZero × BelongingStays }
     ensures fewest { FewestMoves × FreedIsLacked × RowsRise }
     ensures fixed { CheckFixed × LayoutFixed × MoveFixed }
+    ensures told { CheckTold × LayoutTold × MoveTold }
 {}

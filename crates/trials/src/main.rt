@@ -2,58 +2,78 @@
 // `stdout` is written by hand from the document: hosts 1 to 4 with rates 15, 23, 31, 31 hold 3, 5, 6 and 6 slots of a fresh layout.
 #![tactic(auto)]
 
+use base::Refusal;
 use events::Event;
 use roster::Roster;
 use std::io;
 
-// An owner behind a space.
-fn print_owner(rt: &impl Print, owner: u16) -> io::Result<()> {
-    print!(rt; " {owner}")
-}
+const SLOTS: u32 = 20;
 
-// The owners of a table.
-fn print_slots(rt: &impl Print, table: &[u16]) -> io::Result<()> {
-    for owner in table {
-        print_owner(rt, *owner)?;
-    }
-    Ok(())
-}
+// The runs, each of which begins with a fresh layout of farm F: events with their names.
+const RUNS: [&[(&str, Event)]; 3] = [
+    &[("drop 4", Event::Drop { host: 4 })],
+    &[
+        ("drop 1", Event::Drop { host: 1 }),
+        ("add 1", Event::Add { host: 1, rate: 15 }),
+    ],
+    &[("rate 1", Event::Rate { host: 1, rate: 46 })],
+];
 
-// What was done, the answer, the count, and the table after it.
+// What was done, the answer, how many slots changed owner, and the table after it.
 fn print_trial(
     rt: &impl Print,
     name: &str,
-    answer: u32,
-    moved: u32,
+    reply: Result<u32, Refusal>,
     table: &[u16],
 ) -> io::Result<()> {
+    let answer = reply.err().map_or(0, u32::from);
+    let moved = reply.unwrap_or(0);
     print!(rt; "{name}: answer {answer}, moved {moved}, slots")?;
-    print_slots(rt, table)?;
+    for owner in table {
+        print!(rt; " {owner}")?;
+    }
     println!(rt)
 }
 
 // Farm F.
 fn farm() -> Roster {
-    let one = roster::added(roster::empty(), 1, 15);
-    let two = roster::added(one, 2, 23);
-    let three = roster::added(two, 3, 31);
-    roster::added(three, 4, 31)
+    let mut farm = roster::empty();
+    for (host, rate) in [(1, 15), (2, 23), (3, 31), (4, 31)] {
+        farm = roster::added(farm, host, rate);
+    }
+    farm
+}
+
+// A fresh layout of farm F, in which no slot counts as moved.
+fn lay_out(table: &mut [u16]) -> Result<u32, Refusal> {
+    table::layout(farm(), SLOTS, table)?;
+    Ok(0)
+}
+
+// A run, with the table after each event.
+fn try_run(rt: &impl Print, run: &[(&str, Event)], table: &mut [u16]) -> io::Result<()> {
+    let mut roster = farm();
+    // the first trial says whether this is refused
+    let _ = lay_out(table);
+    for (name, event) in run {
+        let reply = match events::apply(roster, SLOTS, *event, table) {
+            Ok(change) => {
+                roster = change.roster;
+                Ok(change.moved)
+            }
+            Err(refused) => Err(refused.reason),
+        };
+        print_trial(rt, name, reply, table)?;
+    }
+    Ok(())
 }
 
 fn main(rt: HostRuntime) -> io::Result<()> {
-    let f = farm();
-    let mut table = [0u16; 20];
-    let a = table::layout(f, 20, &mut table);
-    print_trial(&rt, "fresh", a, 0, &table)?;
-    let b = events::apply(f, 20, Event::Drop { host: 4 }, &mut table);
-    print_trial(&rt, "drop 4", b.answer, b.moved, &table)?;
-    table::layout(f, 20, &mut table);
-    let c = events::apply(f, 20, Event::Drop { host: 1 }, &mut table);
-    print_trial(&rt, "drop 1", c.answer, c.moved, &table)?;
-    let again = c.roster;
-    let d = events::apply(again, 20, Event::Add { host: 1, rate: 15 }, &mut table);
-    print_trial(&rt, "add 1", d.answer, d.moved, &table)?;
-    table::layout(f, 20, &mut table);
-    let e = events::apply(f, 20, Event::Rate { host: 1, rate: 46 }, &mut table);
-    print_trial(&rt, "rate 1", e.answer, e.moved, &table)
+    let mut table = [0; SLOTS as usize];
+    let fresh = lay_out(&mut table);
+    print_trial(&rt, "fresh", fresh, &table)?;
+    for run in RUNS {
+        try_run(&rt, run, &mut table)?;
+    }
+    Ok(())
 }

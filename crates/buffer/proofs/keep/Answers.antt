@@ -1,37 +1,17 @@
--- `buffer::keep` meets its contract: the loop's invariant: the bytes moved so far stand at the front, and all others where they stood.
-use native.Mathlib.Omega.{arith}
-use Prim.Native.Nat.{◌-◌}
-use mathlib.Core.Path.{◌≡◌, refl, sym, ◌∙◌}
-use lib.ListN.{length, length-set, length-drop}
-use Rattle.buffer.proofs.Moves.{none_left, one_moved, all_moved}
+-- `buffer::keep` meets its contract: what is copied to the front is what stands behind the place.
+use mathlib.Core.Path.{sym, ap, ◌∙◌}
+use lib.ListN.{drop, length-drop}
+use lib.Seq.{paste}
+use Rattle.std.proofs.lemmas.List.{drop_min}
+use Rattle.printing.specs.Wrote.{wrote}
+use Rattle.printing.proofs.Texts.{wrote_pasted}
 use Rattle.buffer.proofs.keep.Goals as goal
 
-pub returns-then-buf-from : goal.returns-then-buf-from
-returns-then-buf-from c =
-    let whole = none_left c.args.buf.now c.args.from c.if-buf-from.true in
-    record {
-      count = whole.0;
-      bytes = whole.1;
-    }
-
-pub loop-i-init : goal.loop-i-init
-loop-i-init c = (omega arith, refl, refl)
-
-pub loop-i-preserved : goal.loop-i-preserved
-loop-i-preserved c =
-    let args = c.args in
-    let turn = c.loop-i in
-    (omega arith, length-set turn.buf turn.i _ ∙ turn.invariant.1, one_moved args.buf.now args.from turn.buf turn.i (omega arith) turn.invariant.2)
-
-pub shape_of-buf : goal.shape_of-buf
-shape_of-buf c = c.loop-i.invariant.1
-
-pub returns : goal.returns
-returns c =
-    let args = c.args in
-    let turn = c.loop-i in
-    let all : turn.i ≡ length args.buf.now - args.from = omega arith in
-    record {
-      count = sym (length-drop args.from args.buf.now);
-      bytes = all_moved args.buf.now args.from turn.buf turn.i all turn.invariant.2;
-    }
+pub returns-clause-bytes : goal.returns-clause-bytes
+returns-clause-bytes c =
+    let buf = c.args.buf.now in
+    let from = c.min-from.result in
+    c.copy_within.ensures.after
+    ∙ ap (paste buf 0 (drop from buf)) (sym (length-drop from buf))
+    ∙ wrote_pasted buf 0 (drop from buf)
+    ∙ ap (wrote buf 0) (ap (λ k. drop k buf) c.min-from.ensures ∙ drop_min c.args.from buf)

@@ -1,25 +1,21 @@
--- `events::changed` meets its contract: each kind of event is one change of the roster.
-use mathlib.Core.Path.{◌≡◌, sym, ap, ◌∙◌, subst}
-use mathlib.Core.Bool.{true}
-use Rattle.base.specs.Sizes.{host_fits}
-use Rattle.events.specs.Events.{named, changed}
-use Rattle.events.proofs.Checks.{host_narrow}
+-- `events::changed` meets its contract: each kind of event is one change of the roster, and a valid roster stays so.
+use mathlib.Core.Path.{◌≡◌, sym, ap, ◌∙◌}
+use Rattle.roster.specs.Roster.{valid}
+use Rattle.events.specs.Events.{changed}
+use Rattle.events.proofs.Outcomes.{changed-valid}
 use Rattle.events.proofs.changed.Goals as goal
+use Rattle.events.proofs.changed.Goals.{Joined-event, in-Add, in-Drop, in-Rate}
 
-pub overflow_cast-host : goal.overflow_cast-host
-overflow_cast-host c = host_narrow _ (subst (λ x. host_fits (named x) ≡ true) c.in-Add.is c.requires)
+-- the roster is that of the definition
+made : (c : Joined-event) → c.match-event.roster ≡ changed c.args.v.now.roster c.args.event
+made c = elim c.match-event.branch [
+  | in-Add w ↦ w.roster-is ∙ w.added-roster.ensures ∙ ap (changed _) (sym w.in-Add.is)
+  | in-Drop w ↦ w.roster-is ∙ w.dropped-roster.ensures ∙ ap (changed _) (sym w.in-Drop.is)
+  | in-Rate w ↦ w.roster-is ∙ w.rerated-roster.ensures ∙ ap (changed _) (sym w.in-Rate.is)
+]
 
-pub overflow_cast-host-in-Drop : goal.overflow_cast-host-in-Drop
-overflow_cast-host-in-Drop c = host_narrow _ (subst (λ x. host_fits (named x) ≡ true) c.in-Drop.is c.requires)
+pub invariant_of-result : goal.invariant_of-result
+invariant_of-result c = record { valid = ap valid (made c) ∙ changed-valid _ c.args.event c.args.v.now.valid }
 
-pub overflow_cast-host-in-Rate : goal.overflow_cast-host-in-Rate
-overflow_cast-host-in-Rate c = host_narrow _ (subst (λ x. host_fits (named x) ≡ true) c.in-Rate.is c.requires)
-
-pub returns-in-Add : goal.returns-in-Add
-returns-in-Add c = c.added.ensures ∙ ap (changed _) (sym c.in-Add.is)
-
-pub returns-in-Drop : goal.returns-in-Drop
-returns-in-Drop c = c.dropped.ensures ∙ ap (changed _) (sym c.in-Drop.is)
-
-pub returns-in-Rate : goal.returns-in-Rate
-returns-in-Rate c = c.rerated.ensures ∙ ap (changed _) (sym c.in-Rate.is)
+pub returns : goal.returns
+returns c = made (goal.at.returns c).Joined-event

@@ -1,17 +1,18 @@
--- `feed::line_end` meets its contract: the loop's invariant: the place and what stands before byte 10 from there on make up the line's end.
-use native.Mathlib.Omega.{arith}
-use mathlib.Core.Path.{refl}
-use Rattle.feed.proofs.Lines.{ten_here, ten_later, ten_none}
+-- `feed::line_end` meets its contract: what std counts up to the first byte 10 is what stands before it.
+use mathlib.Core.Path.{ap, ◌∙◌}
+use mathlib.Core.Bool.{cond}
+use Prim.Native.Nat.{ℕ}
+use lib.Dec.{eqb, ltb}
+use lib.ListN.{length}
+use Rattle.std.proofs.Common.{rules, tests}
+use Rattle.std.specs.Prelude.{Some, None}
+use Rattle.std.proofs.lemmas.Iterator.{YieldsList-from_slice}
+use Rattle.std.proofs.lemmas.Iterator.Search.{position_from_yields_List}
+use Rattle.feed.proofs.Lines.{ten_first}
 use Rattle.feed.proofs.line_end.Goals as goal
 
-pub loop-i-init : goal.loop-i-init
-loop-i-init c = (omega arith, refl)
-
-pub returns-then-input-i-eq10 : goal.returns-then-input-i-eq10
-returns-then-input-i-eq10 c = let here = ten_here c.args.input.now c.loop-i.i (omega arith) c.if-input-i-eq10.true in let kept = c.loop-i.invariant.1 in omega arith
-
-pub loop-i-preserved : goal.loop-i-preserved
-loop-i-preserved c = let later = ten_later c.args.input.now c.loop-i.i (omega arith) c.if-input-i-eq10.false in let kept = c.loop-i.invariant.1 in (omega arith, omega arith)
-
 pub returns : goal.returns
-returns c = let none = ten_none c.args.input.now c.loop-i.i (omega arith) in let kept = c.loop-i.invariant.1 in omega arith
+returns c =
+    let bytes = c.args.bytes.now in
+    position_from_yields_List (λ byte. eqb byte 10) _ _ c.position.result c.position.ensures.ran (YieldsList-from_slice bytes cc) (λ x b q k. search (rules, tests))
+    ∙ ap (λ (n : ℕ). cond (ltb n (length bytes)) (Some n) None) (ten_first bytes)

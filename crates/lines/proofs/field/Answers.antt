@@ -1,24 +1,16 @@
--- `lines::field` meets its contract: the part behind the name is the definition's, and a line that starts with the name is long enough for it.
-use native.Mathlib.Omega.{arith}
-use mathlib.Core.Path.{ap, ◌∙◌}
-use lib.ListN.{length}
-use Rattle.lines.proofs.Starts.{part_from}
+-- `lines::field` meets its contract: what is left behind the name is the definition's.
+use mathlib.Core.Path.{sym, ap, ◌∙◌}
 use Rattle.lines.specs.Numbers.{number_of}
 use Rattle.lines.specs.Lines.{field_of}
-use Rattle.lines.proofs.Starts.{starts_length}
-use Rattle.std.proofs.Common.{sym}
+use Rattle.lines.proofs.Starts.{starts_cut}
 use Rattle.lines.proofs.field.Goals as goal
 
-pub returns-then-not-starts_with : goal.returns-then-not-starts_with
+pub returns-in_err-strip_prefix : goal.returns-in_err-strip_prefix
 unfolding field_of
-returns-then-not-starts_with c = rw (sym c.starts_with.ensures ∙ c.if-not-starts_with.true)
-
-pub slice_bounds-number_in-start : goal.slice_bounds-number_in-start
-slice_bounds-number_in-start c = let long = starts_length _ _ (sym c.starts_with.ensures ∙ c.if-not-starts_with.false) in omega arith
-
-pub slice_bounds-number_in-count : goal.slice_bounds-number_in-count
-slice_bounds-number_in-count c = slice_bounds-number_in-start c
+returns-in_err-strip_prefix c = c.from_residual.ensures ∙ rw (sym (starts_cut c.args.name.now c.args.line.now) ∙ c.in_err-strip_prefix.ensures.cases)
 
 pub returns : goal.returns
 unfolding field_of
-returns c = rw (sym c.starts_with.ensures ∙ c.if-not-starts_with.false) (c.number_in.ensures ∙ ap number_of (part_from c.args.line.now (length c.args.name.now)))
+returns c =
+    let starts = c.in_ok-strip_prefix.ensures.cases in
+    rw (sym (starts_cut c.args.name.now c.args.line.now) ∙ starts.0) (c.number_in.ensures ∙ ap number_of starts.1)

@@ -1,74 +1,36 @@
--- `load::carries` meets its contract: each return is one row of the refusals, or none.
-use mathlib.Core.Path.{◌≡◌, sym, ap, ◌∙◌}
+-- `load::carries` meets its contract: past the tests the numbers are in their ranges, and the sums from the list are the definition's.
+use mathlib.Core.Path.{◌≡◌, sym, ap, ap₂, ◌∙◌}
 use mathlib.Core.Bool.{true}
-use Prim.Native.Nat.{◌≤◌}
-use lib.ListN.{length}
-use lib.Seq.{length-take-le}
-use Rattle.base.specs.Sizes.{slots_fit}
-use Rattle.roster.specs.Roster.{valid}
-use Rattle.roster.proofs.Facts.{facts}
-use Rattle.load.specs.Reply.{load_fits}
-use Rattle.load.proofs.Ranges.{from_first, to_last, rates-few, rate_most, rates_some}
-use Rattle.load.proofs.Replies.{carried-slots, carried_roster, carried_none, carried_load, carried-done}
+use lib.Dec.{leb}
+use Rattle.std.specs.List.{sum_by}
+use Rattle.base.specs.Tables.{total}
+use Rattle.roster.specs.Roster.{rates_of, valid}
+use Rattle.load.specs.Load.{most_kept}
+use Rattle.load.proofs.Ranges.{sum_some, sum_most}
+use Rattle.load.proofs.Replies.{carried-done}
+use Rattle.load.proofs.Totals.{carries_sum}
 use Rattle.load.proofs.carries.Goals as goal
-use Rattle.load.proofs.carries.Goals.{Else-not-load_fits, Else-not-slots_fit, Else-not-valid}
+use Rattle.load.proofs.carries.Goals.{After-rate_sum}
 
-pub returns-then-not-slots_fit : goal.returns-then-not-slots_fit
-returns-then-not-slots_fit c = c.refused.ensures ∙ sym (carried-slots _ _ _ (sym c.slots_fit.ensures ∙ c.if-not-slots_fit.true))
+-- past the tests the rates that are summed are those of the roster handed in, which breaks no rule
+module _ (c : After-rate_sum) where
+  right : valid c.args.r ≡ true
+  right = rw c.in_ok-roster.ensures at c.in_ok-roster.roster.valid
 
--- past the first test the slot count fits
-fits : (c : Else-not-slots_fit) → slots_fit c.args.slots ≡ true
-fits c = sym c.slots_fit.ensures ∙ c.if-not-slots_fit.false
+  listed : c.rates-rates.result.now ≡ rates_of c.args.r
+  listed = c.rates-rates.ensures ∙ ap rates_of c.in_ok-roster.ensures
 
-pub returns-then-not-valid : goal.returns-then-not-valid
-returns-then-not-valid c =
-    c.refused-then-not-valid.ensures ∙ sym (carried_roster _ _ _ (fits (goal.at.returns-then-not-valid c).Else-not-slots_fit) (sym c.valid.ensures ∙ c.if-not-valid.true))
-
--- past the second the roster breaks no rule
-right : (c : Else-not-valid) → valid c.args.r ≡ true
-right c = sym c.valid.ensures ∙ c.if-not-valid.false
-
-pub returns-then-n-eq0 : goal.returns-then-n-eq0
-returns-then-n-eq0 c =
-    c.refused-then-n-eq0.ensures ∙ sym (carried_none _ _ _ (fits (goal.at.returns-then-n-eq0 c).Else-not-slots_fit) (right (goal.at.returns-then-n-eq0 c).Else-not-valid) c.if-n-eq0.true)
-
-pub returns-then-not-load_fits : goal.returns-then-not-load_fits
-returns-then-not-load_fits c =
-    c.refused-then-not-load_fits.ensures ∙ sym (carried_load _ _ _ (fits (goal.at.returns-then-not-load_fits c).Else-not-slots_fit) (right (goal.at.returns-then-not-load_fits c).Else-not-valid) c.if-n-eq0.false (sym c.load_fits.ensures ∙ c.if-not-load_fits.true))
-
--- past the last test
-module _ (c : Else-not-load_fits) where
-  sizes : slots_fit c.args.slots ≡ true
-  sizes = sym c.slots_fit.ensures ∙ c.if-not-slots_fit.false
-
-  valid_roster : valid c.args.r ≡ true
-  valid_roster = sym c.valid.ensures ∙ c.if-not-valid.false
-
-  load_right : load_fits c.args.load ≡ true
-  load_right = sym c.load_fits.ensures ∙ c.if-not-load_fits.false
-
-  room : c.args.r.count ≤ length c.args.r.rates
-  room = let f = facts _ valid_roster in rw f.rates_long f.few
-
-pub slice_bounds-rates-end : goal.slice_bounds-rates-end
-slice_bounds-rates-end c = room (goal.at.slice_bounds-rates-end c).Else-not-load_fits
-
-pub slice_bounds-carries_all-end : goal.slice_bounds-carries_all-end
-slice_bounds-carries_all-end c = sym (length-take-le _ _ (room (goal.at.slice_bounds-carries_all-end c).Else-not-load_fits))
-
-pub carries_all-carries-requires : goal.carries_all-carries-requires
-carries_all-carries-requires c =
-    let args = c.args in
-    let last = (goal.at.carries_all-carries-requires c).Else-not-load_fits in
-    let t = valid_roster last in
-    record {
-      asked = (from_first 1 1000 args.load (load_right last), to_last 1 1000 args.load (load_right last), to_last 1 16384 args.slots (sizes last));
-      hosts = (rates-few args.r t, rates_some args.r t c.if-n-eq0.false, rate_most args.r t);
-    }
+pub invariant_of-asked-clause-all_in_range : goal.invariant_of-asked-clause-all_in_range
+invariant_of-asked-clause-all_in_range c =
+    let past = (goal.at.invariant_of-asked-clause-all_in_range c).After-rate_sum in
+    rw (c.rate_sum.ensures, listed past) (sum_some c.args.r (right past) c.if-r-eq0.false, sum_most c.args.r (right past))
 
 pub returns : goal.returns
 returns c =
     let args = c.args in
-    let last = (goal.at.returns c).Else-not-load_fits in
-    ap (λ b. record { answer = 0; carries = b }) c.carries_all-carries.ensures
-    ∙ sym (carried-done args.r args.slots args.load (sizes last) (valid_roster last) c.if-n-eq0.false (load_right last))
+    let past = (goal.at.returns c).After-rate_sum in
+    let held : c.most_held.result ≡ sum_by (most_kept args.load args.slots (total (rates_of args.r))) (rates_of args.r) =
+    c.most_held.ensures ∙ ap (λ all. sum_by (most_kept args.load args.slots all) c.rates-rates.result.now) c.rate_sum.ensures
+    ∙ ap (λ rates. sum_by (most_kept args.load args.slots (total rates)) rates) (listed past) in
+    ap (λ b. record { answer = 0; carries = b }) (ap₂ leb c.from.ensures held ∙ sym (carries_sum args.load args.slots (rates_of args.r)))
+    ∙ sym (carried-done args.r args.slots args.load (sym c.slots_fit.ensures ∙ c.if-not-slots_fit.false) (right past) c.if-r-eq0.false (sym c.load_fits.ensures ∙ c.if-not-load_fits.false))

@@ -1,15 +1,9 @@
 -- `printing::has_room` meets its contract: its tests are that of the definition.
-use native.Mathlib.Omega.{arith}
-use Prim.Native.Nat.{◌+◌}
-use mathlib.Core.Path.{sym}
-use borrow.Author.Tests.{lt-leb}
-use Rattle.printing.specs.Wrote.{room_for}
-use Rattle.printing.proofs.Texts.{room_tested}
+use Rattle.printing.proofs.Texts.{room_tested, no_room}
 use Rattle.printing.proofs.has_room.Goals as goal
 
-pub returns-then-size-lt84 : goal.returns-then-size-lt84
-unfolding room_for
-returns-then-size-lt84 c = let args = c.args in sym (lt-leb (args.at + 84) args.size (omega arith))
+pub returns-then-size-ge84 : goal.returns-then-size-ge84
+returns-then-size-ge84 c = room_tested c.args.size c.args.at c.if-size-ge84.true
 
-pub returns : goal.returns
-returns c = let args = c.args in room_tested args.size args.at (omega arith)
+pub returns-else-size-ge84 : goal.returns-else-size-ge84
+returns-else-size-ge84 c = no_room c.args.size c.args.at c.if-size-ge84.false

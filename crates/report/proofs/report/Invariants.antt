@@ -1,12 +1,8 @@
--- `report::report` meets its contract. The loop's invariant: the list is what it was, with the plan's records over its first i places.
-use Prim.Native.Nat.{◌-◌, ◌≤◌}
+-- `report::report` meets its contract. The loop's invariant: before place i the list holds the hosts' records.
 use mathlib.Core.Path.{◌≡◌}
-use Rattle.report.specs.Plan.{record_at}
-use Rattle.report.proofs.Lists.{over}
+use lib.ListN.{take}
+use Rattle.report.specs.Report.{host_record, listed}
 use Rattle.report.proofs.report.Given as goal
 
 abbrev pub invariant-loop-i : goal.invariant-loop-i
-invariant-loop-i l = (l.i ≤ l.plan.end) × (l.out ≡ over l.i (record_at l.plan) l.initial.out)
-
-abbrev pub decreases-loop-i : goal.decreases-loop-i
-decreases-loop-i l = l.plan.end - l.i
+invariant-loop-i l = take l.i l.out ≡ listed l.i (host_record l.fn.r l.slots)

@@ -11,7 +11,7 @@ use Rattle.roster.proofs.places_right.Goals.{After-place_right}
 
 pub loop-i-init : goal.loop-i-init
 unfolding last_before all
-loop-i-init c = (omega arith, refl, refl)
+loop-i-init c = (refl, refl)
 
 -- the answer of a turn is that place's
 here : (c : After-place_right) →
@@ -19,29 +19,16 @@ here : (c : After-place_right) →
     c.place_right.result ≡ right_at args.hosts.now args.rates.now args.count c.loop-i.i
 here c =
     let args = c.args in
-    c.place_right.ensures ∙ ap (λ l. place_right (ltb c.loop-i.i args.count) l (at args.hosts.now c.loop-i.i) (at args.rates.now c.loop-i.i)) c.loop-i.invariant.1
+    c.place_right.ensures ∙ ap (λ l. place_right (ltb c.loop-i.i args.count) l (at args.hosts.now c.loop-i.i) (at args.rates.now c.loop-i.i)) c.loop-i.invariant.0
 
-pub returns-then-not-place_right : goal.returns-then-not-place_right
-returns-then-not-place_right c =
-    let fails = sym (here (goal.at.returns-then-not-place_right c).After-place_right) ∙ c.if-not-place_right.true in
-    record {
-      answer = sym (all_fails 256 _ c.loop-i.i (omega arith) fails);
-      narrow = λ i. omega (arith, c.type_inv.hosts i);
-    }
+pub returns-then-not-place_right-clause-answer : goal.returns-then-not-place_right-clause-answer
+returns-then-not-place_right-clause-answer c =
+    let fails = sym (here (goal.at.returns-then-not-place_right-clause-answer c).After-place_right) ∙ c.if-not-place_right.true in
+    sym (all_fails 256 _ c.loop-i.i (omega arith) fails)
 
 pub loop-i-preserved : goal.loop-i-preserved
 unfolding last_before
 loop-i-preserved c = (
-  omega arith,
   rw (add-one c.loop-i.i) refl,
-  all-next c.loop-i.i _ c.loop-i.invariant.2 (sym (here (goal.at.loop-i-preserved c).After-place_right) ∙ c.if-not-place_right.false),
+  all-next c.loop-i.i _ c.loop-i.invariant.1 (sym (here (goal.at.loop-i-preserved c).After-place_right) ∙ c.if-not-place_right.false),
 )
-
-pub returns : goal.returns
-returns c =
-    let args = c.args in
-    let e : c.loop-i.i ≡ 256 = omega arith in
-    record {
-      answer = sym (ap (λ n. all n (right_at args.hosts.now args.rates.now args.count)) (sym e) ∙ c.loop-i.invariant.2);
-      narrow = λ i. omega (arith, c.type_inv.hosts i);
-    }

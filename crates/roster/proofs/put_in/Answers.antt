@@ -1,25 +1,13 @@
--- `roster::put_in` meets its contract. The loop's invariant is `PutIn`, of either list; the measure is what is left of the length.
+-- `roster::put_in` meets its contract: the copy and the store are those of the lemma.
+use mathlib.Core.Path.{ap, ◌∙◌}
+use Prim.Native.Nat.{◌-◌}
+use lib.ListN.{length, set}
 use native.Mathlib.Omega.{arith}
-use Rattle.roster.proofs.Shift.{put_start, put_next, put_done}
+use Rattle.roster.proofs.Shift.{put-paste}
 use Rattle.roster.proofs.put_in.Goals as goal
 
-pub loop-i-init : goal.loop-i-init
-loop-i-init c = (put_start _ _ _ c.requires.0, put_start _ _ _ (rw c.requires.1 c.requires.0))
-
-pub loop-i-preserved : goal.loop-i-preserved
-loop-i-preserved c =
-    (put_next c.loop-i.invariant.0 (omega arith), put_next c.loop-i.invariant.1 (omega arith))
-
-pub shape_of-hosts : goal.shape_of-hosts
-shape_of-hosts c = c.loop-i.invariant.0.as_long
-
-pub shape_of-rates : goal.shape_of-rates
-shape_of-rates c = c.loop-i.invariant.1.as_long
-
 pub returns : goal.returns
-returns c =
-    let same = c.requires.1 in
-    record {
-      numbers = put_done c.loop-i.invariant.0 (omega arith);
-      speeds = rw (← same) (put_done c.loop-i.invariant.1 (omega arith));
-    }
+returns g c =
+    let list = c.args.list.now in
+    ap (λ k. set k c.args.p c.args.value) c.copy_within.ensures.after
+    ∙ put-paste list c.args.p c.args.value c.requires (length list - 1) (omega (arith, c.requires))

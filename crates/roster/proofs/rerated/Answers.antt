@@ -1,39 +1,25 @@
 -- `roster::rerated` meets its contract: the arrays it makes are those of the definition.
 use native.Mathlib.Omega.{arith}
 use Prim.Native.Nat.{◌<◌}
-use mathlib.Core.Path.{◌≡◌, sym}
-use mathlib.Core.Bool.{true}
-use Rattle.roster.specs.Changes.{may_rerate}
+use mathlib.Core.Path.{sym}
 use Rattle.roster.proofs.Facts.{facts}
 use Rattle.roster.proofs.Changes.{rate_valid, rate_place, rerated_not}
 use Rattle.roster.proofs.Made.{made_rerated}
-use Rattle.std.proofs.Common.{◌∙◌}
 use Rattle.roster.proofs.rerated.Goals as goal
-use Rattle.roster.proofs.rerated.Goals.{After-place_in-p, Else-not-may_rerate}
+use Rattle.roster.proofs.rerated.Goals.{In-Some}
 
-pub returns-then-not-may_rerate : goal.returns-then-not-may_rerate
-returns-then-not-may_rerate c = sym (rerated_not _ _ _ (sym c.may_rerate.ensures ∙ c.if-not-may_rerate.true))
-
--- past the test the change is allowed
-allowed : (c : Else-not-may_rerate) → let args = c.args in may_rerate args.r args.host args.rate ≡ true
-allowed c = sym c.may_rerate.ensures ∙ c.if-not-may_rerate.false
-
-pub place_in-p-requires : goal.place_in-p-requires
-place_in-p-requires c = rate_valid _ _ _ (allowed (goal.at.place_in-p-requires c).Else-not-may_rerate)
+pub returns-in_default : goal.returns-in_default
+returns-in_default c = sym (rerated_not _ _ _ c.in_default.ensures)
 
 -- the host stands below the count, and so below 256
-low : (c : After-place_in-p) → c.place_in-p.result < 256
-low c =
-    let t = (sym c.may_rerate.ensures ∙ c.if-not-may_rerate.false) in
-    let f = facts _ (rate_valid _ _ _ t) in
-    let p = c.place_in-p.ensures in
-    omega (arith, rate_place _ _ _ t, f.few)
+low : (c : In-Some) → c.in-Some.p < 256
+low c = let may = c.in-Some.ensures in omega (arith, rate_place _ _ _ may.0, (facts _ (rate_valid _ _ _ may.0)).few, may.1)
 
-pub offset_bounds-rates-p : goal.offset_bounds-rates-p
-offset_bounds-rates-p c = omega (arith, low c)
+pub offset_bounds-after-p : goal.offset_bounds-after-p
+offset_bounds-after-p c = omega (arith, low (goal.at.offset_bounds-after-p c).In-Some)
 
-pub bounds-rates-p : goal.bounds-rates-p
-bounds-rates-p c = omega (arith, low c)
+pub bounds-after-p : goal.bounds-after-p
+bounds-after-p c = low (goal.at.bounds-after-p c).In-Some
 
 pub returns : goal.returns
-returns c = made_rerated _ _ _ (allowed (goal.at.returns c).Else-not-may_rerate) _ c.place_in-p.ensures
+returns c = let may = c.in-Some.ensures in made_rerated _ _ _ may.0 _ may.1

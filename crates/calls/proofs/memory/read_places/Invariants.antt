@@ -1,6 +1,0 @@
--- `memory::read_places` ends.
-use Rattle.std.proofs.Common.{◌-◌}
-use Rattle.calls.proofs.memory.read_places.Given as goal
-
-abbrev pub decreases-loop-i : goal.decreases-loop-i
-decreases-loop-i l = 256 - l.i

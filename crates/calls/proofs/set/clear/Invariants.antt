@@ -1,6 +1,0 @@
--- `set::clear` ends.
-use Rattle.std.proofs.Common.{◌-◌}
-use Rattle.calls.proofs.set.clear.Given as goal
-
-abbrev pub decreases-loop-i : goal.decreases-loop-i
-decreases-loop-i l = 512 - l.i
