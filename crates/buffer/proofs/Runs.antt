@@ -212,7 +212,7 @@ module _ {owners₀ input out₀ : List ℕ} {s₀ : State} {owners out : List �
   abbrev now : Turn
   now = record { state = s; owners = owners; text = kept.text; next = next }
 
-  kept_size : length out ≡ length out₀
+  pub kept_size : length out ≡ length out₀
   kept_size = ap length kept.put ∙ length-wrote out₀ 0 kept.text (omega (arith, kept.fits))
 
   -- what the call promises of the values reached

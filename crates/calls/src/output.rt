@@ -35,21 +35,23 @@ impl<W: Write + Drop> Output<W> {
         let _ = self.to.write_all(&self.buffer[..self.used]);
         self.used = 0;
     }
+
+    // Puts a byte. A full buffer is written out once one more comes, so that every write but the last is as long.
+    fn put(&mut self, byte: u8) {
+        if self.used == SIZE {
+            self.flush();
+        }
+        self.buffer[self.used] = byte;
+        self.used += 1;
+    }
 }
 
 impl<W: Write + Drop> fmt::Write for Output<W> {
     // It never fails.
     fn write_str(&mut self, text: &str) -> fmt::Result {
-        if text.len() > SIZE - self.used {
-            self.flush();
+        for byte in text.as_bytes() {
+            self.put(*byte);
         }
-        if text.len() > SIZE {
-            let _ = self.to.write_all(text.as_bytes());
-            return Ok(());
-        }
-        let end = self.used + text.len();
-        self.buffer[self.used..end].copy_from_slice(text.as_bytes());
-        self.used = end;
         Ok(())
     }
 }

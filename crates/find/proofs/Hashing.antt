@@ -45,15 +45,16 @@ kept_of_kept n words m = mod-mod_of_dvd words n (dvd-mul_right words m)
 
 -- a key from the front -------------------------------------------------------------
 
--- byte after byte is a fold of steps
-pub hash_fold : (rule : Rule) (hash : ℕ) (key : List ℕ) → hash_from rule hash key ≡ fold (stepped rule) hash key
-unfolding hash_from
-hash_fold rule hash [] = refl
-hash_fold rule hash (byte ∷ key) = hash_fold rule (stepped rule hash byte) key
-
+-- the next byte is a step
 pub hash_next : (rule : Rule) (hash : ℕ) (key : List ℕ) (i : ℕ) → i < length key → hash_from rule (stepped rule hash (at key i)) (drop (i + 1) key) ≡ hash_from rule hash (drop i key)
 unfolding hash_from
 hash_next rule hash key i l = rw (add-one i, drop-cons key i 0)
+
+-- so byte after byte is a fold of steps
+pub hash_fold : (rule : Rule) (hash : ℕ) (key : List ℕ) → hash_from rule hash key ≡ fold (stepped rule) hash key
+unfolding hash_from
+hash_fold rule hash [] = refl
+hash_fold rule hash (byte ∷ key) = sym (hash_next rule hash (byte ∷ key) 0 (omega arith)) ∙ hash_fold rule (stepped rule hash byte) key
 
 from_word : (rule : Rule) (hash : ℕ) → hash < rule.words → (key : List ℕ) → hash_from rule hash key < rule.words
 unfolding hash_from stepped

@@ -32,11 +32,14 @@ module _ (r : Roster) (t : valid r ≡ true) where
   f : Facts r
   f = facts r t
 
-  rates-few : length (rates_of r) ≤ 256
+  pub rates-few : length (rates_of r) ≤ 256
   rates-few = rw (length-rates r f) f.few
 
   rate_in_range : (i : ℕ) → i < length (rates_of r) → rate_fits (at (rates_of r) i) ≡ true
   rate_in_range i l = let low : i < r.count = rw (length-rates r f) at l in rw (at-rates r f i low) (f.each_rate_fits i low)
+
+  pub rate_most : (i : ℕ) → i < length (rates_of r) → at (rates_of r) i ≤ 1000000
+  rate_most i l = to_last 1 1000000 _ (rate_in_range i l)
 
   pub rates_positive : Positive (rates_of r)
   rates_positive i l = from_first 1 1000000 (at (rates_of r) i) (rate_in_range i l)
@@ -51,5 +54,5 @@ module _ (r : Roster) (t : valid r ≡ true) where
 
   pub sum_most : total (rates_of r) ≤ 256000000
   sum_most =
-      let most : total (rates_of r) ≤ length (rates_of r) * 1000000 = sum_bounded (length (rates_of r)) 1000000 (at (rates_of r)) (λ i l. to_last 1 1000000 _ (rate_in_range i l)) in
+      let most : total (rates_of r) ≤ length (rates_of r) * 1000000 = sum_bounded (length (rates_of r)) 1000000 (at (rates_of r)) rate_most in
       omega (arith, rates-few)

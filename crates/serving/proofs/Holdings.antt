@@ -19,7 +19,7 @@ use Rattle.buffer.specs.Reads.{Served, unserved, gone_on, served, after_reads}
 use Rattle.buffer.proofs.Runs.{run-within, run_idle}
 use Rattle.serving.specs.declared.Server.{Server}
 use Rattle.serving.specs.Served.{Faithful}
-use Rattle.serving.specs.Turns.{Holding, Waiting}
+use Rattle.serving.specs.Turns.{Holding, Waiting, Longer, Unchanged}
 
 -- before the first read nothing is held
 pub holding_first : (v : Server) → v.state ≡ start → v.owners ≡ replicate 16384 0 → v.held ≡ 0 → Holding v
@@ -99,19 +99,26 @@ module _ {v : Server} (waits : Waiting v) where
   ended told = record { reads = waits.reads; state = waits.state; done = λ w. inr (ap (λ l. has_line l 0) (sym waits.bytes) ∙ waits.none) }
 
   -- what came stands behind what was held
-  pub longer : (w : Server) (part rest : List ℕ) (n : ℕ) → w.state ≡ v.state → w.owners ≡ v.owners → w.buf ≡ take v.held v.buf ++ (part ++ rest) → w.held ≡ v.held + n →
-      v.held ≤ length v.buf → n ≤ length part → Holding w
-  longer w part rest n s o b h within most =
+  pub longer : (w : Server) (part rest : List ℕ) → Unchanged v w → w.buf ≡ take v.held v.buf ++ (part ++ rest) → v.held ≤ length v.buf → w.held ≤ v.held + length part →
+      Longer v.buf w.buf v.held w.held → Holding w
+  longer w part rest same b within most l =
       let size = length-take-le v.held v.buf within in
-      let place : w.held ≡ length (take v.held v.buf) + n = omega arith in
       record {
         reads = waits.reads;
-        since = take n (part ++ rest);
-        state = s ∙ waits.state;
-        owned = o ∙ waits.owned;
-        bytes = rw (b, place) (take-append-add (take v.held v.buf) (part ++ rest) n ∙ ap (λ x. x ++ take n (part ++ rest)) waits.bytes);
+        since = l.came;
+        state = same.state ∙ waits.state;
+        owned = same.owners ∙ waits.owned;
+        bytes = l.bytes ∙ ap (λ x. x ++ l.came) waits.bytes;
         within = rw b (omega (arith, length-append (take v.held v.buf) (part ++ rest), length-append part rest));
       }
+
+-- a read puts what came behind the bytes held
+pub read_behind : (buf tail : List ℕ) (held n : ℕ) → held + n ≤ length buf → Longer buf (take held buf ++ tail) held (held + n)
+read_behind buf tail held n l = record {
+  came = take n tail;
+  bytes = ap (λ k. take (k + n) (take held buf ++ tail)) (sym (length-take-le held buf (omega arith))) ∙ take-append-add (take held buf) tail n;
+  within = l;
+}
 
 -- what a run prints stays within the output
 pub run_fits : (r : Ran) (s : State) (owners input : List ℕ) (size : ℕ) → r ≡ ran (run s owners input size) → r.printed ≤ size

@@ -21,3 +21,14 @@ pub record Waiting (v : Server) : Type 0 where
   pub owned : v.owners ≡ (after_reads unserved reads).owners
   pub bytes : take v.held v.buf ≡ (after_reads unserved reads).left
   pub none : has_line (take v.held v.buf) 0 ≡ false
+
+-- what is held after a read: what was held, and what came behind it
+pub record Longer (before after : List ℕ) (held more : ℕ) : Type 0 where
+  pub came : List ℕ
+  pub bytes : take more after ≡ take held before ++ came
+  pub within : more ≤ length before
+
+-- reading changes neither the state nor the owners
+pub record Unchanged (before after : Server) : Type 0 where
+  pub state : after.state ≡ before.state
+  pub owners : after.owners ≡ before.owners

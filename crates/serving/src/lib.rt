@@ -4,7 +4,7 @@
 ghost use Rattle.std.specs.Prelude.{◌≤◌, ◌<◌, length, IfSome};
 ghost use Rattle.std.specs.ControlFlow.{ForBreak, ForContinue};
 ghost use Rattle.serving.specs.Served.{Faithful};
-ghost use Rattle.serving.specs.Turns.{Holding, Waiting};
+ghost use Rattle.serving.specs.Turns.{Holding, Waiting, Longer, Unchanged};
 
 use std::io;
 use std::io::{Error, Read, Write};
@@ -129,6 +129,8 @@ impl Server {
     ) -> ControlFlow<bool>
         requires waits { Waiting self.old }
         requires room { self.old.held < length self.old.buf }
+        ensures stays { Unchanged self.old self.new }
+        ensures longer { ForContinue result (λ next. Longer self.old.buf self.new.buf self.old.held self.new.held) }
         ensures goes_on { ForContinue result (λ next. Holding self.new) }
         ensures ends { ForBreak result (λ done. Faithful self.new.state done) }
     {

@@ -44,17 +44,22 @@ fn farm() -> Roster {
     farm
 }
 
-// A fresh layout of farm F, in which no slot counts as moved.
-fn lay_out(table: &mut [u16]) -> Result<u32, Refusal> {
-    table::layout(farm(), SLOTS, table)?;
+// A fresh layout of a farm, in which no slot counts as moved.
+fn lay_out(farm: Roster, table: &mut [u16]) -> Result<u32, Refusal> {
+    table::layout(farm, SLOTS, table)?;
     Ok(0)
 }
 
-// A run, with the table after each event.
-fn try_run(rt: &impl Print, run: &[(&str, Event)], table: &mut [u16]) -> io::Result<()> {
-    let mut roster = farm();
+// A run over a fresh layout of a farm, with the table after each event.
+fn try_run(
+    rt: &impl Print,
+    farm: Roster,
+    run: &[(&str, Event)],
+    table: &mut [u16],
+) -> io::Result<()> {
+    let mut roster = farm;
     // the first trial says whether this is refused
-    let _ = lay_out(table);
+    let _ = lay_out(farm, table);
     for (name, event) in run {
         let reply = match events::apply(roster, SLOTS, *event, table) {
             Ok(change) => {
@@ -69,11 +74,12 @@ fn try_run(rt: &impl Print, run: &[(&str, Event)], table: &mut [u16]) -> io::Res
 }
 
 fn main(rt: HostRuntime) -> io::Result<()> {
+    let farm = farm();
     let mut table = [0; SLOTS as usize];
-    let fresh = lay_out(&mut table);
+    let fresh = lay_out(farm, &mut table);
     print_trial(&rt, "fresh", fresh, &table)?;
     for run in RUNS {
-        try_run(&rt, run, &mut table)?;
+        try_run(&rt, farm, run, &mut table)?;
     }
     Ok(())
 }
